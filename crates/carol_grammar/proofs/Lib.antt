@@ -1,0 +1,17 @@
+pub mod SetLemmas
+pub mod ReadingLemmas
+pub mod Right
+pub mod RightBoth
+pub mod RightMany
+pub mod RightParts
+pub mod RightRule
+pub mod RightDeep
+pub mod Grows
+pub mod Alike
+pub mod AlikeParts
+pub mod AlikeRule
+pub mod AlikeDeep
+pub mod Answered
+pub mod BracketsSound
+pub mod Repeating
+pub mod BracketsLemmas

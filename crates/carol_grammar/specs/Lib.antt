@@ -1,0 +1,7 @@
+pub mod Sets
+pub mod Rule
+pub mod Sentence
+pub mod Reading
+pub mod Sound
+pub mod Found
+pub mod Brackets

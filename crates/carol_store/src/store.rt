@@ -1,0 +1,105 @@
+ghost use Rattle.std.specs.Prelude.{◌≡◌, ◌<◌, ◌≤◌, length, slice_get, Some, FitsSigned};
+ghost use Rattle.std.specs.Int.{w64};
+ghost use Rattle.carol_store.specs.Effects.{IsEffect, IsAtomOf};
+ghost use Rattle.carol_store.specs.Stores.{IsStore, AreWords, StaysInWords, apply, changed, with_cell};
+
+use crate::effect::{Atom, Effect};
+use crate::shape::{CellKind, Shape};
+use smallvec::SmallVec;
+use std::alloc::Global;
+use std::marker::Model;
+
+/// The numbers of a shape's cells. Contracts see it as the list of them.
+#[derive(Drop)]
+pub struct Store {
+    cells: SmallVec<i64, 16>,
+}
+
+impl Model for Store {
+    ghost use Rattle.std.specs.Prelude.{List, ℤ, ◌≡◌, ◌≤◌, length};
+
+    ghost Value = { List ℤ };
+
+    ghost view = { λ s. s.cells.items };
+
+    ghost invariant = { λ s. length s.cells.items ≤ 16 };
+}
+
+impl Store {
+    /// The store with these values, one for each cell of the shape.
+    pub fn initial(alloc: Global, shape: &Shape, values: &[i64]) -> Store
+        requires { IsStore shape.now values.now }
+        ensures { result ≡ values.now }
+    {
+        let _kinds = shape.kinds();
+        Store::of(alloc, values)
+    }
+
+    // The store of at most sixteen cells.
+    fn of(alloc: Global, values: &[i64]) -> Store
+        requires { length values.now ≤ 16 }
+        ensures { result ≡ values.now }
+    {
+        Store {
+            cells: SmallVec::from_slice(alloc, values).unwrap(),
+        }
+    }
+
+    /// An equal store.
+    pub fn copy(&self) -> Store
+        ensures { result ≡ self.now }
+    {
+        Store::of(*self.cells.allocator(), self.cells.as_slice())
+    }
+
+    /// Applies each atom of the effect. No counter may leave the range of `i64` on the way.
+    pub fn apply(&mut self, shape: &Shape, effect: &Effect)
+        requires store { IsStore shape.now self.old }
+        requires effect { IsEffect shape.now effect.now }
+        requires words { StaysInWords shape.now effect.now self.old }
+        ensures applied { self.new ≡ apply shape.now effect.now self.old }
+        ensures store { IsStore shape.now self.new }
+    {
+        for atom in effect.atoms() {
+            self.change(shape, *atom);
+        }
+    }
+
+    // Changes the atom's cell.
+    fn change(&mut self, shape: &Shape, atom: Atom)
+        requires store { IsStore shape.now self.old }
+        requires atom { IsAtomOf shape.now atom }
+        requires words { AreWords (with_cell shape.now atom self.old) }
+        ensures { self.new ≡ with_cell shape.now atom self.old }
+    {
+        let index = atom.cell as usize;
+        let number = changed(shape.kinds()[index], self.cells[index], atom.value);
+        self.cells[index] = number;
+    }
+
+    /// The number in the cell, which is in range.
+    pub fn get(&self, cell: u32) -> i64
+        requires { cell < length self.now }
+        ensures { slice_get self.now cell ≡ Some result }
+    {
+        self.cells[cell as usize]
+    }
+
+    /// The number of cells, at most sixteen.
+    pub fn len(&self) -> u32
+        ensures value { result ≡ length self.now }
+        ensures few { length self.now ≤ 16 }
+    {
+        self.cells.len() as u32
+    }
+}
+
+// What an atom's value makes of the number in a cell of this kind.
+fn changed(kind: CellKind, number: i64, value: i64) -> i64
+    requires { FitsSigned w64 (changed kind number value) }
+    ensures { result ≡ changed kind number value }
+{
+    match kind {
+        CellKind::Counter => number + value,
+    }
+}

@@ -1,0 +1,13 @@
+//! Decimal numbers and fixed words, printed and read from the front of a text.
+#![tactic(auto)]
+
+mod bad_byte;
+mod print;
+mod read;
+
+pub use bad_byte::BadByte;
+pub use print::push_integer;
+pub use read::{expect, integer, number, wide_integer, wide_number};
+
+#[cfg(test)]
+mod tests;
