@@ -1,0 +1,6 @@
+pub mod Formulas
+pub mod Bodies
+pub mod Files
+pub mod Unplaced
+pub mod Words
+pub mod Shape

@@ -1,0 +1,29 @@
+//! The tree of a file, as the grammar gives it.
+//!
+//! A list is the kit's `Items`, seen as the list of its items, and a part that leads back to its own type stands in the
+//! kit's `Boxed`, seen as what it holds: so a tree is plain data to a contract. Formulas and bodies reach themselves;
+//! `specs/` has each of them once more as plain data, for definitions that recurse.
+#![tactic(auto)]
+
+mod bodies;
+mod cells;
+mod files;
+mod formulas;
+mod operations;
+mod places;
+mod scenes;
+mod words;
+
+pub use bodies::{AtomDecl, AtomDeclList, Body, Change, Last, PathDecl, Statement, StatementList};
+pub use cells::{CellDecl, CellDeclList, FieldDecl, FieldDeclList, FieldKind};
+pub use files::{File, GuardDecl, GuardDeclList, ProgramDecl};
+pub use formulas::{
+    FormulaDecl, ProductDecl, ProductDeclList, Sign, TermDecl, ValueDecl, ValueKind,
+};
+pub use operations::{OpDecl, OpDeclList, ParamDecl, ParamDeclList};
+pub use places::{Ident, IdentList, Num, Span};
+pub use scenes::{
+    CommandDecl, CommandDeclList, IntList, SceneDecl, ScriptLine, ScriptLineList, SessionDecl,
+    SessionDeclList,
+};
+pub use words::Word;

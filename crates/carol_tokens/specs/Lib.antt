@@ -1,0 +1,5 @@
+pub mod Keywords
+pub mod Place
+pub mod First
+pub mod Cut
+pub mod Tokens
