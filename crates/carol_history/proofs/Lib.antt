@@ -1,0 +1,4 @@
+pub mod Chosen
+pub mod Holdings
+pub mod Orders
+pub mod Small

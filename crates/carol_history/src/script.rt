@@ -1,0 +1,40 @@
+use sqlite_items::Items;
+
+/// A statement of a script.
+#[derive(Clone, Copy, Debug, PartialEq, Eq)]
+pub enum PlainLine {
+    /// The session with this number takes its next step.
+    Go(u64),
+    /// One replica passes the lowest entry on that the other lacks.
+    Gossip {
+        /// The replica that passes the entry on.
+        source: u64,
+        /// The replica that gets it.
+        target: u64,
+    },
+}
+
+/// The statements of a script, in order.
+pub type PlainLines = Items<PlainLine>;
+
+/// Why a statement of a script gives no event.
+#[derive(Clone, Copy, Debug, PartialEq, Eq)]
+pub enum Cause {
+    /// There is no session with the number.
+    NoSuchSession,
+    /// All commands of the session are done.
+    Finished,
+    /// One of the two replicas is not there, or both are the same.
+    NoSuchPair,
+    /// The one replica holds nothing that the other lacks.
+    NothingNew,
+}
+
+/// The first statement of a script that gives no event.
+#[derive(Clone, Copy, Debug, PartialEq, Eq)]
+pub struct BadLine {
+    /// The statement's number, from 1.
+    pub number: u64,
+    /// Why it gives no event.
+    pub cause: Cause,
+}

@@ -1,0 +1,4 @@
+pub mod House
+pub mod Moves
+pub mod Places
+pub mod Tables

@@ -1,0 +1,15 @@
+//! A house keeps a history of sessions on counters, with what the next step needs of it at hand.
+#![tactic(auto)]
+
+mod house;
+mod moved;
+mod script;
+mod tables;
+
+pub use carol_history::{
+    BadLine, Cause, MOST_EVENTS, PlainCommand, PlainEvent, PlainLine, PlainLines, PlainList,
+    PlainSession, PlainSessions,
+};
+pub use house::PlainHouse;
+pub use moved::{Gossip, Moved};
+pub use script::{Played, run_script};

@@ -1,0 +1,5 @@
+pub mod PartLaws
+pub mod ManyLaws
+pub mod ItemLaws
+pub mod InputLaws
+pub mod StartLaws

@@ -1,0 +1,2 @@
+pub mod RulesSound
+pub mod OneTree
