@@ -23,12 +23,12 @@ pub record WasPassed (edges : List Edge) (entries : List Entry) (trail : List �
   pub back : IsTrail edges node (drop start trail) (entry_at entries at).node
   pub total : (entry_at entries number).total ≡ (entry_at entries at).total +ℤ walk_weight edges (drop start trail)
 
--- as many nodes are not passed yet as the entry is deep
+-- each node that was passed is marked once, and from a deep entry the way back is as long as there are nodes
 pub record IsTrace (nodes : ℕ) (edges : List Edge) (entries : List Entry) (passed : List (Option ℕ)) (trail : List ℕ) (at : ℕ) : Type 0 where
   pub known : at < length entries
   pub width : length passed ≡ nodes
-  pub left : count_by is_none passed ≡ (entry_at entries at).depth
-  pub long : length trail + (entry_at entries at).depth ≡ nodes
+  pub left : count_by is_none passed + length trail ≡ nodes
+  pub long : IsDeep nodes entries → length trail + (entry_at entries at).depth ≡ nodes
   pub marks : (node start : ℕ) → get_or passed node None ≡ Some start → WasPassed edges entries trail at node start
 
 abbrev unpassed : Option ℕ
@@ -44,16 +44,14 @@ nowhere_passed nodes node start e =
       | inr past ↦ let here = get_or_past (replicate nodes unpassed) node None (omega (arith, past, length-replicate nodes unpassed)) in cc
     ]
 
-pub trace_start : (nodes : ℕ) (edges : List Edge) (entries : List Entry) (at : ℕ) → IsDeep nodes entries → at ≡ length entries - 1 → IsTrace nodes edges entries (replicate nodes unpassed) [] at
-trace_start nodes edges entries at deep last =
-    let depth : (entry_at entries at).depth ≡ nodes = deep.last at (omega (arith, deep.some, last)) in
-    record {
-      known = omega (arith, deep.some, last);
-      width = length-replicate nodes unpassed;
-      left = none_passed nodes ∙ sym depth;
-      long = omega (arith, depth);
-      marks = λ node start e. absurd (nowhere_passed nodes node start e);
-    }
+pub trace_start : (nodes : ℕ) (edges : List Edge) (entries : List Entry) (at : ℕ) → 0 < length entries → at ≡ length entries - 1 → IsTrace nodes edges entries (replicate nodes unpassed) [] at
+trace_start nodes edges entries at some last = record {
+  known = omega (arith, some, last);
+  width = length-replicate nodes unpassed;
+  left = omega (arith, none_passed nodes);
+  long = λ deep. let depth : (entry_at entries at).depth ≡ nodes = deep.last at (omega (arith, some, last)) in omega (arith, depth);
+  marks = λ node start e. absurd (nowhere_passed nodes node start e);
+}
 
 -- to pass a node takes one from those that are left
 count_by-pass : (passed : List (Option ℕ)) (node start : ℕ) → node < length passed → get_or passed node unpassed ≡ unpassed → count_by is_none (set passed node (Some start)) + 1 ≡ count_by is_none passed
@@ -93,25 +91,18 @@ mark_new edges entries trail at known older grown =
       total = rw last (omega (arith, ints, grown.total));
     }
 
--- an entry whose node was not passed yet has a parent
-pub trace_older : (nodes : ℕ) (edges : List Edge) (entries : List Entry) (latest : List ℕ) (passed : List (Option ℕ)) (trail : List ℕ) (at : ℕ) → IsForest nodes edges entries latest → IsTrace nodes edges entries passed trail at → get_or passed (entry_at entries at).node None ≡ unpassed → 0 < (entry_at entries at).depth
-trace_older nodes edges entries latest passed trail at forest it free =
-    let node : (entry_at entries at).node < length passed = subst (λ (n : ℕ). (entry_at entries at).node < n) (sym it.width) (forest.right at it.known).node in
-    omega (arith, it.left, count_by-pass passed (entry_at entries at).node 0 node free)
-
-pub trace_step : (nodes : ℕ) (edges : List Edge) (entries : List Entry) (latest : List ℕ) (passed : List (Option ℕ)) (trail : List ℕ) (at : ℕ) → IsForest nodes edges entries latest → IsTrace nodes edges entries passed trail at → get_or passed (entry_at entries at).node None ≡ unpassed → IsTrace nodes edges entries (set passed (entry_at entries at).node (Some (length trail))) (trail ++ (entry_at entries at).edge ∷ []) (entry_at entries at).parent
-trace_step nodes edges entries latest passed trail at forest it free =
+pub trace_step : (nodes : ℕ) (edges : List Edge) (entries : List Entry) (latest : List ℕ) (passed : List (Option ℕ)) (trail : List ℕ) (at : ℕ) → IsForest nodes edges entries latest → IsTrace nodes edges entries passed trail at → get_or passed (entry_at entries at).node None ≡ unpassed → 0 < (entry_at entries at).depth → IsTrace nodes edges entries (set passed (entry_at entries at).node (Some (length trail))) (trail ++ (entry_at entries at).edge ∷ []) (entry_at entries at).parent
+trace_step nodes edges entries latest passed trail at forest it free deep =
     let right = forest.right at it.known in
     let node : (entry_at entries at).node < length passed = subst (λ (n : ℕ). (entry_at entries at).node < n) (sym it.width) right.node in
     let one_less = count_by-pass passed (entry_at entries at).node (length trail) node free in
-    let deep : 0 < (entry_at entries at).depth = omega (arith, it.left, one_less) in
     let older = right.parent deep in
     let grown = right.grown deep in
     record {
       known = omega (arith, older, it.known);
       width = length-set passed (entry_at entries at).node (Some (length trail)) ∙ it.width;
-      left = omega (arith, it.left, one_less, grown.depth);
-      long = omega (arith, it.long, length_push trail (entry_at entries at).edge, grown.depth);
+      left = omega (arith, it.left, one_less, length_push trail (entry_at entries at).edge);
+      long = λ is_deep. let long = it.long is_deep in omega (arith, long, length_push trail (entry_at entries at).edge, grown.depth);
       marks = λ place start e. elim (cases_eq place (entry_at entries at).node) [
         | inl same ↦
             let here = get_or-set_same passed (entry_at entries at).node (Some (length trail)) unpassed node in
@@ -131,7 +122,7 @@ trace_cycle nodes edges entries latest passed trail at start forest it again =
       node = (entry_at entries at).node;
       closed = walk_from_trail edges (entry_at entries at).node (drop start trail) (entry_at entries at).node mark.back;
       negative = omega (arith, ints, falls, mark.total, walk_weight-reverse edges (drop start trail));
-      short = omega (arith, length-reverse (drop start trail), length-drop start trail, it.long);
+      short = omega (arith, length-reverse (drop start trail), length-drop start trail, it.left);
     }
 
 -- what the code reads at the entry's node

@@ -1,4 +1,4 @@
-ghost use Rattle.std.specs.Prelude.{◌≡◌, List, ◌^◌, ◌<◌, ◌≤◌, [], ◌∷◌, ◌++◌, length, reverse, IfNone, IfOk, IfSome, OnOk};
+ghost use Rattle.std.specs.Prelude.{◌≡◌, List, ◌^◌, ◌<◌, ◌≤◌, [], ◌∷◌, ◌++◌, length, reverse, IfNone, IfOk, IfSome, IsNone, OnOk};
 ghost use Rattle.std.specs.List.{All};
 ghost use Rattle.carol_paths.specs.declared.Edge.{Edge};
 ghost use Rattle.carol_paths.specs.Graph.{HasEnds, IsNegativeCycle, IsPotential, IsWithin, Meets, edge_at};
@@ -163,12 +163,18 @@ impl Forest {
         Ok(values)
     }
 
-    /// The cycle on the walk of the last entry.
-    pub fn cycle(&self, alloc: Global, nodes: u32, edges: &[Edge]) -> Result<Vec<u32>, AllocError>
+    /// The cycle on the walk of the last entry, if that walk comes to a node again. A deep one does.
+    pub fn cycle(
+        &self,
+        alloc: Global,
+        nodes: u32,
+        edges: &[Edge],
+    ) -> Result<Option<Vec<u32>>, AllocError>
         requires forest { IsForest nodes edges.now self.now.entries.items self.now.latest.items }
-        requires deep { IsDeep nodes self.now.entries.items }
+        requires some { 0 < length self.now.entries.items }
 
-        ensures { IfOk result (λ v. IsNegativeCycle nodes edges.now v.items) }
+        ensures cycle { IfOk result (λ o. IfSome o (λ v. IsNegativeCycle nodes edges.now v.items)) }
+        ensures deep { IfOk result (λ o. IsNone o → ¬ IsDeep nodes self.now.entries.items) }
     {
         let mut passed = vec![in alloc; None; nodes as usize]?;
         let mut trail = Vec::new(alloc);
@@ -177,11 +183,33 @@ impl Forest {
             let entry = self.entries[at];
             if let Some(start) = passed[entry.node as usize] {
                 let (_, closed) = trail.as_slice().split_at(start);
-                return reversed(alloc, closed);
+                let numbers = reversed(alloc, closed)?;
+                return Ok(Some(numbers));
+            }
+            if entry.depth == 0 {
+                return Ok(None);
             }
             passed[entry.node as usize] = Some(trail.len());
             trail.push(entry.edge)?;
             at = entry.parent as usize;
+        }
+    }
+
+    /// The cycle on the walk of the last entry, which is deep.
+    pub fn deep_cycle(
+        &self,
+        alloc: Global,
+        nodes: u32,
+        edges: &[Edge],
+    ) -> Result<Vec<u32>, AllocError>
+        requires forest { IsForest nodes edges.now self.now.entries.items self.now.latest.items }
+        requires deep { IsDeep nodes self.now.entries.items }
+
+        ensures { IfOk result (λ v. IsNegativeCycle nodes edges.now v.items) }
+    {
+        match self.cycle(alloc, nodes, edges)? {
+            Some(numbers) => Ok(numbers),
+            None => unreachable!(),
         }
     }
 }

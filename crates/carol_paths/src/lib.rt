@@ -42,8 +42,12 @@ pub fn potentials_or_cycle(alloc: Global, nodes: u32, edges: &[Edge]) -> Result<
     loop {
         match forest.round(nodes, edges)? {
             Step::Kept => return Ok(Paths::Potentials(forest.totals(alloc, nodes, edges)?)),
-            Step::Lowered => {}
-            Step::Deep => return Ok(Paths::Cycle(forest.cycle(alloc, nodes, edges)?)),
+            Step::Lowered => {
+                if let Some(numbers) = forest.cycle(alloc, nodes, edges)? {
+                    return Ok(Paths::Cycle(numbers));
+                }
+            }
+            Step::Deep => return Ok(Paths::Cycle(forest.deep_cycle(alloc, nodes, edges)?)),
         }
     }
 }

@@ -1,3 +1,6 @@
+use Rattle.std.proofs.Common.{ℕ, Option, Vec, Global, subst}
+use Rattle.std.specs.Option.{IfSome}
+use Rattle.carol_paths.specs.Graph.{IsNegativeCycle}
 use Rattle.carol_paths.proofs.Walks.{cycle_refutes}
 use Rattle.carol_paths.proofs.potentials_or_cycle.Goals as goal
 
@@ -9,4 +12,9 @@ loop-forest-init c = record {
 
 pub returns-in-Deep : goal.returns-in-Deep
 returns-in-Deep c =
-    (c.in_ok-cycle-in-Deep.ensures, cycle_refutes c.args.nodes c.args.edges.now c.in_ok-cycle-in-Deep.field-0.items c.in_ok-cycle-in-Deep.ensures)
+    (c.in_ok-deep_cycle-in-Deep.ensures, cycle_refutes c.args.nodes c.args.edges.now c.in_ok-deep_cycle-in-Deep.field-0.items c.in_ok-deep_cycle-in-Deep.ensures)
+
+pub returns-in-Some : goal.returns-in-Some
+returns-in-Some c =
+    let cycle = subst (λ (o : Option (Vec ℕ Global)). IfSome o (λ v. IsNegativeCycle c.args.nodes c.args.edges.now v.items)) c.in-Some.is c.in_ok-numbers-in-Lowered.ensures.cycle in
+    (cycle, cycle_refutes c.args.nodes c.args.edges.now c.in-Some.numbers.items cycle)

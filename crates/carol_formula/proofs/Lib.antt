@@ -1,0 +1,10 @@
+pub mod Integers
+pub mod Orders
+pub mod Products
+pub mod Sums
+pub mod Merging
+pub mod Terms
+pub mod Summing
+pub mod Replacing
+pub mod Claims
+pub mod Places

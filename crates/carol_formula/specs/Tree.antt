@@ -1,0 +1,19 @@
+-- The claim that a formula of the code makes.
+use Rattle.carol_formula.specs.Claim as claim
+use Rattle.carol_formula.specs.Claim.{Claim}
+use Rattle.carol_formula.specs.declared.formula.Formula.{Formula, fold-Formula}
+use Rattle.carol_formula.specs.declared.formula.Formula.TheOpen.{Formula-F}
+
+-- one level, where each part gives its claim
+abbrev pub claim_at : Formula-F Claim → Claim
+claim_at Formula-F.True = claim.True
+claim_at Formula-F.False = claim.False
+claim_at (Formula-F.Le t) = claim.Le t
+claim_at (Formula-F.Eq t) = claim.Eq t
+claim_at (Formula-F.Ne t) = claim.Ne t
+claim_at (Formula-F.And a b) = claim.And a b
+claim_at (Formula-F.Or a b) = claim.Or a b
+claim_at (Formula-F.Not a) = claim.Not a
+
+abbrev pub claim_of : Formula → Claim
+claim_of = fold-Formula Claim claim_at

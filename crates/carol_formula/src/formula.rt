@@ -1,0 +1,377 @@
+ghost use Rattle.std.specs.Prelude.{ℕ, ℤ, ◌≡◌, ◌≤◌, ◌*◌, min, true, false, IsTrue, ◌↔◌, IfOk, pos, if◌then◌else◌};
+ghost use Rattle.carol_formula.specs.Bounds.{term_limit, narrow_limit};
+ghost use Rattle.carol_formula.specs.Claim as claim;
+ghost use Rattle.carol_formula.specs.Claim.{truth, ClaimFits, ClaimWithin, HasNoNot, with_term, without_not, cases_of};
+ghost use Rattle.carol_formula.specs.Linear.{IsWithin, constant_of, difference_of, replaced};
+ghost use Rattle.carol_formula.specs.Tree.{claim_of};
+ghost use Rattle.carol_formula.specs.Value.{value_at, set_at};
+
+use crate::term::{Term, TermError};
+use crate::variable::{Lookup, Variable};
+use sqlite_items::Boxed;
+use std::alloc::{AllocError, Global};
+
+/// A formula. `Le`, `Eq` and `Ne` compare their term with 0.
+#[derive(Debug)]
+pub enum Formula {
+    True,
+    False,
+    Le(Term),
+    Eq(Term),
+    Ne(Term),
+    And(Boxed<Formula>, Boxed<Formula>),
+    Or(Boxed<Formula>, Boxed<Formula>),
+    Not(Boxed<Formula>),
+}
+
+// A part without parts of its own is let go of first, so that a chain takes no stack, on whichever side its
+// next part stands.
+impl Drop for Formula {
+    fn drop(mut self) {
+        loop {
+            match self {
+                Formula::True | Formula::False => return,
+                Formula::Le(_) | Formula::Eq(_) | Formula::Ne(_) => return,
+                Formula::Not(inner) => self = inner.into_inner(),
+                Formula::And(left, right) | Formula::Or(left, right) => {
+                    let left = left.into_inner();
+                    let right = right.into_inner();
+                    if right.is_comparison() {
+                        self = left;
+                    } else {
+                        self = right;
+                    }
+                }
+            }
+        }
+    }
+}
+
+// What every larger number of cases is counted as.
+const MOST_CASES: u32 = 1_000_001;
+
+// The product of two numbers of cases.
+fn product(a: u32, b: u32) -> u32
+    requires a_most { a ≤ MOST_CASES }
+    requires b_most { b ≤ MOST_CASES }
+    ensures { result ≡ min (a * b) MOST_CASES }
+{
+    let cases = (u64::from(a) * u64::from(b)).min(u64::from(MOST_CASES));
+    cases as u32
+}
+
+impl Formula {
+    // The formula has no parts.
+    fn is_comparison(&self) -> bool {
+        match self {
+            Formula::And(_, _) | Formula::Or(_, _) | Formula::Not(_) => false,
+            _ => true,
+        }
+    }
+
+    /// The truth of the formula. The numbers are to fit each of its terms, as `fits` tells.
+    pub fn holds<L: Lookup>(&self, at: &L) -> bool
+        requires { ClaimFits (claim_of self.now) (L.numbers at.now) }
+        ensures { result ≡ truth (claim_of self.now) (L.numbers at.now) }
+    {
+        match self {
+            Formula::True => true,
+            Formula::False => false,
+            Formula::Le(term) => term.value(at) <= 0,
+            Formula::Eq(term) => term.value(at) == 0,
+            Formula::Ne(term) => term.value(at) != 0,
+            Formula::And(left, right) => left.get().holds(at) && right.get().holds(at),
+            Formula::Or(left, right) => left.get().holds(at) || right.get().holds(at),
+            Formula::Not(inner) => !inner.get().holds(at),
+        }
+    }
+
+    /// The numbers fit each term of the formula.
+    pub fn fits<L: Lookup>(&self, at: &L) -> bool
+        ensures { IsTrue result ↔ ClaimFits (claim_of self.now) (L.numbers at.now) }
+    {
+        match self {
+            Formula::True | Formula::False => true,
+            Formula::Le(term) | Formula::Eq(term) | Formula::Ne(term) => term.fits(at),
+            Formula::And(left, right) | Formula::Or(left, right) => {
+                left.get().fits(at) && right.get().fits(at)
+            }
+            Formula::Not(inner) => inner.get().fits(at),
+        }
+    }
+
+    /// Each coefficient and constant of the formula is below 2^90 in absolute value.
+    pub fn is_narrow(&self) -> bool
+        ensures { IsTrue result ↔ ClaimWithin narrow_limit (claim_of self.now) }
+    {
+        match self {
+            Formula::True | Formula::False => true,
+            Formula::Le(term) | Formula::Eq(term) | Formula::Ne(term) => term.is_narrow(),
+            Formula::And(left, right) | Formula::Or(left, right) => {
+                left.get().is_narrow() && right.get().is_narrow()
+            }
+            Formula::Not(inner) => inner.get().is_narrow(),
+        }
+    }
+
+    /// The formula with a term in place of a variable. `TooWide` comes where a coefficient or a constant of
+    /// the true result is not below 2^100 in absolute value.
+    pub fn substitute(&self, alloc: Global, v: Variable, by: &Term) -> Result<Formula, TermError>
+        ensures ok { IfOk result (λ f. (claim_of f ≡ with_term v by.now (claim_of self.now)) × ClaimWithin term_limit (claim_of f)) }
+        ensures truth { IfOk result (λ f. (at : ℕ → ℤ) → truth (claim_of f) at ≡ truth (claim_of self.now) (set_at v (value_at by.now at) at)) }
+        ensures too_wide { result ≡ Err TermError.TooWide → ¬ ClaimWithin term_limit (with_term v by.now (claim_of self.now)) }
+    {
+        Ok(self.replaced(alloc, v, by)?.into_inner())
+    }
+
+    fn replaced(&self, alloc: Global, v: Variable, by: &Term) -> Result<Boxed<Formula>, TermError>
+        ensures ok { IfOk result (λ f. (claim_of f ≡ with_term v by.now (claim_of self.now)) × ClaimWithin term_limit (claim_of f)) }
+        ensures too_wide { result ≡ Err TermError.TooWide → ¬ ClaimWithin term_limit (with_term v by.now (claim_of self.now)) }
+    {
+        match self {
+            Formula::True => Ok(truth_value(alloc, true)?),
+            Formula::False => Ok(truth_value(alloc, false)?),
+            Formula::Le(term) => replaced_le(alloc, term, v, by),
+            Formula::Eq(term) => replaced_eq(alloc, term, v, by),
+            Formula::Ne(term) => replaced_ne(alloc, term, v, by),
+            Formula::And(left, right) => {
+                let left = left.get().replaced(alloc, v, by)?;
+                let right = right.get().replaced(alloc, v, by)?;
+                Ok(and(alloc, left, right)?)
+            }
+            Formula::Or(left, right) => {
+                let left = left.get().replaced(alloc, v, by)?;
+                let right = right.get().replaced(alloc, v, by)?;
+                Ok(or(alloc, left, right)?)
+            }
+            Formula::Not(inner) => {
+                let inner = inner.get().replaced(alloc, v, by)?;
+                Ok(not(alloc, inner)?)
+            }
+        }
+    }
+
+    /// The formula without `Not`, with the same truth. It is to be narrow: each coefficient and constant is
+    /// below 2^90 in absolute value.
+    pub fn negation_form(&self, alloc: Global) -> Result<Formula, AllocError>
+        requires { ClaimWithin narrow_limit (claim_of self.now) }
+        ensures form { IfOk result (λ f. claim_of f ≡ without_not true (claim_of self.now)) }
+        ensures truth { IfOk result (λ f. (at : ℕ → ℤ) → truth (claim_of f) at ≡ truth (claim_of self.now) at) }
+        ensures no_not { IfOk result (λ f. HasNoNot (claim_of f)) }
+    {
+        Ok(self.signed_form(alloc, true)?.into_inner())
+    }
+
+    // The formula, or its denial, without `Not`.
+    fn signed_form(&self, alloc: Global, is_positive: bool) -> Result<Boxed<Formula>, AllocError>
+        requires { ClaimWithin narrow_limit (claim_of self.now) }
+        ensures { IfOk result (λ f. claim_of f ≡ without_not is_positive (claim_of self.now)) }
+    {
+        match self {
+            Formula::True => truth_value(alloc, is_positive),
+            Formula::False => truth_value(alloc, !is_positive),
+            Formula::Le(term) => comparison(alloc, is_positive, term),
+            Formula::Eq(term) => equation(alloc, is_positive, term),
+            Formula::Ne(term) => equation(alloc, !is_positive, term),
+            Formula::And(left, right) => {
+                let left = left.get().signed_form(alloc, is_positive)?;
+                let right = right.get().signed_form(alloc, is_positive)?;
+                junction(alloc, is_positive, left, right)
+            }
+            Formula::Or(left, right) => {
+                let left = left.get().signed_form(alloc, is_positive)?;
+                let right = right.get().signed_form(alloc, is_positive)?;
+                junction(alloc, !is_positive, left, right)
+            }
+            Formula::Not(inner) => inner.get().signed_form(alloc, !is_positive),
+        }
+    }
+
+    /// The number of cases of a formula without `Not`. A count above 1,000,000 is answered as 1,000,001.
+    pub fn cases(&self) -> u32
+        ensures { result ≡ min (cases_of (claim_of self.now)) 1000001 }
+    {
+        match self {
+            Formula::And(left, right) => product(left.get().cases(), right.get().cases()),
+            Formula::Or(left, right) => (left.get().cases() + right.get().cases()).min(MOST_CASES),
+            Formula::Ne(_) => 2,
+            _ => 1,
+        }
+    }
+
+    /// An equal formula.
+    pub fn copy(&self, alloc: Global) -> Result<Formula, AllocError>
+        ensures { IfOk result (λ f. f ≡ self.now) }
+    {
+        Ok(self.copied(alloc)?.into_inner())
+    }
+
+    fn copied(&self, alloc: Global) -> Result<Boxed<Formula>, AllocError>
+        ensures { IfOk result (λ f. f ≡ self.now) }
+    {
+        match self {
+            Formula::True => truth_value(alloc, true),
+            Formula::False => truth_value(alloc, false),
+            Formula::Le(term) => le(alloc, term),
+            Formula::Eq(term) => eq(alloc, term),
+            Formula::Ne(term) => ne(alloc, term),
+            Formula::And(left, right) => {
+                let left = left.get().copied(alloc)?;
+                let right = right.get().copied(alloc)?;
+                and(alloc, left, right)
+            }
+            Formula::Or(left, right) => {
+                let left = left.get().copied(alloc)?;
+                let right = right.get().copied(alloc)?;
+                or(alloc, left, right)
+            }
+            Formula::Not(inner) => {
+                let inner = inner.get().copied(alloc)?;
+                not(alloc, inner)
+            }
+        }
+    }
+}
+
+// A call that goes down a formula keeps a frame for each level. So the formulas that it makes stand behind a
+// `Boxed`, and what makes one is a function of its own.
+
+#[inline(never)]
+fn truth_value(alloc: Global, is_true: bool) -> Result<Boxed<Formula>, AllocError>
+    ensures { IfOk result (λ f. f ≡ (if is_true then Formula.True else Formula.False)) }
+{
+    if is_true {
+        return Boxed::new(alloc, Formula::True);
+    }
+    Boxed::new(alloc, Formula::False)
+}
+
+#[inline(never)]
+fn le(alloc: Global, term: &Term) -> Result<Boxed<Formula>, AllocError>
+    ensures { IfOk result (λ f. f ≡ Formula.Le term.now) }
+{
+    Boxed::new(alloc, Formula::Le(term.copy()?))
+}
+
+#[inline(never)]
+fn eq(alloc: Global, term: &Term) -> Result<Boxed<Formula>, AllocError>
+    ensures { IfOk result (λ f. f ≡ Formula.Eq term.now) }
+{
+    Boxed::new(alloc, Formula::Eq(term.copy()?))
+}
+
+#[inline(never)]
+fn ne(alloc: Global, term: &Term) -> Result<Boxed<Formula>, AllocError>
+    ensures { IfOk result (λ f. f ≡ Formula.Ne term.now) }
+{
+    Boxed::new(alloc, Formula::Ne(term.copy()?))
+}
+
+#[inline(never)]
+fn and(
+    alloc: Global,
+    left: Boxed<Formula>,
+    right: Boxed<Formula>,
+) -> Result<Boxed<Formula>, AllocError>
+    ensures { IfOk result (λ f. f ≡ Formula.And left right) }
+{
+    Boxed::new(alloc, Formula::And(left, right))
+}
+
+#[inline(never)]
+fn or(
+    alloc: Global,
+    left: Boxed<Formula>,
+    right: Boxed<Formula>,
+) -> Result<Boxed<Formula>, AllocError>
+    ensures { IfOk result (λ f. f ≡ Formula.Or left right) }
+{
+    Boxed::new(alloc, Formula::Or(left, right))
+}
+
+#[inline(never)]
+fn not(alloc: Global, inner: Boxed<Formula>) -> Result<Boxed<Formula>, AllocError>
+    ensures { IfOk result (λ f. f ≡ Formula.Not inner) }
+{
+    Boxed::new(alloc, Formula::Not(inner))
+}
+
+#[inline(never)]
+fn replaced_le(
+    alloc: Global,
+    term: &Term,
+    v: Variable,
+    by: &Term,
+) -> Result<Boxed<Formula>, TermError>
+    ensures ok { IfOk result (λ f. (claim_of f ≡ claim.Le (replaced v by.now term.now)) × IsWithin term_limit (replaced v by.now term.now)) }
+    ensures too_wide { result ≡ Err TermError.TooWide → ¬ IsWithin term_limit (replaced v by.now term.now) }
+{
+    let term = term.replace(v, by)?;
+    Ok(Boxed::new(alloc, Formula::Le(term))?)
+}
+
+#[inline(never)]
+fn replaced_eq(
+    alloc: Global,
+    term: &Term,
+    v: Variable,
+    by: &Term,
+) -> Result<Boxed<Formula>, TermError>
+    ensures ok { IfOk result (λ f. (claim_of f ≡ claim.Eq (replaced v by.now term.now)) × IsWithin term_limit (replaced v by.now term.now)) }
+    ensures too_wide { result ≡ Err TermError.TooWide → ¬ IsWithin term_limit (replaced v by.now term.now) }
+{
+    let term = term.replace(v, by)?;
+    Ok(Boxed::new(alloc, Formula::Eq(term))?)
+}
+
+#[inline(never)]
+fn replaced_ne(
+    alloc: Global,
+    term: &Term,
+    v: Variable,
+    by: &Term,
+) -> Result<Boxed<Formula>, TermError>
+    ensures ok { IfOk result (λ f. (claim_of f ≡ claim.Ne (replaced v by.now term.now)) × IsWithin term_limit (replaced v by.now term.now)) }
+    ensures too_wide { result ≡ Err TermError.TooWide → ¬ IsWithin term_limit (replaced v by.now term.now) }
+{
+    let term = term.replace(v, by)?;
+    Ok(Boxed::new(alloc, Formula::Ne(term))?)
+}
+
+// Both parts, or one of them where it is a denial.
+fn junction(
+    alloc: Global,
+    is_and: bool,
+    left: Boxed<Formula>,
+    right: Boxed<Formula>,
+) -> Result<Boxed<Formula>, AllocError>
+    ensures { IfOk result (λ f. claim_of f ≡ (if is_and then claim.And (claim_of left) (claim_of right) else claim.Or (claim_of left) (claim_of right))) }
+{
+    if is_and {
+        return and(alloc, left, right);
+    }
+    or(alloc, left, right)
+}
+
+// The term is 0, or it is not.
+fn equation(alloc: Global, is_zero: bool, term: &Term) -> Result<Boxed<Formula>, AllocError>
+    ensures { IfOk result (λ f. claim_of f ≡ (if is_zero then claim.Eq term.now else claim.Ne term.now)) }
+{
+    if is_zero {
+        return eq(alloc, term);
+    }
+    ne(alloc, term)
+}
+
+// The term is at most 0, or it is not.
+#[inline(never)]
+fn comparison(alloc: Global, is_positive: bool, term: &Term) -> Result<Boxed<Formula>, AllocError>
+    requires { IsWithin narrow_limit term.now }
+    ensures { IfOk result (λ f. claim_of f ≡ (if is_positive then claim.Le term.now else claim.Le (difference_of (constant_of (pos 1)) term.now))) }
+{
+    if is_positive {
+        return le(alloc, term);
+    }
+    let denied = term.denied()?;
+    Boxed::new(alloc, Formula::Le(denied))
+}
