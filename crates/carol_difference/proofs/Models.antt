@@ -1,6 +1,6 @@
 -- From potentials to numbers that make every row true.
-use Rattle.std.proofs.Common.{◌≡◌, ◌≢◌, ℕ, zero, suc, ◌+◌, ◌*◌, ◌^◌, ◌<◌, ◌≤◌, Bool, true, false, List, [], ◌∷◌, length, get_or, refl, sym, subst, ap, ◌∙◌, ◌⊎◌, inl, inr, arith, add-one, Option, Some, None}
-use Rattle.std.specs.Prelude.{slice_get, ℤ, pos, negsuc, ◌+ℤ◌, ◌-ℤ◌, ◌*ℤ◌, ◌≤ℤ◌, neg_ℤ, unsigned_abs, IsTrue, if◌then◌else◌, ◌==◌}
+use Rattle.std.proofs.Common.{◌≡◌, ◌≢◌, ℕ, zero, suc, ◌+◌, ◌^◌, ◌<◌, ◌≤◌, List, [], ◌∷◌, length, get_or, refl, sym, subst, ap, ◌∙◌, inl, inr, arith, add-one, Option, Some}
+use Rattle.std.specs.Prelude.{slice_get, ℤ, pos, negsuc, ◌-ℤ◌, ◌*ℤ◌, ◌≤ℤ◌, unsigned_abs, IsTrue}
 use Rattle.std.specs.List.{All}
 use Rattle.std.specs.BTreeMap.{BTreeMap}
 use Rattle.std.specs.Int.{w128}
@@ -10,16 +10,15 @@ use Rattle.std.proofs.lemmas.Bool.{cases_eq, false≢true}
 use Rattle.std.proofs.lemmas.Bool.Decides.{nat_tests}
 use Rattle.std.proofs.lemmas.List.{get_or_default}
 use Rattle.std.proofs.lemmas.Option.{slice_get-get_or}
-use Rattle.carol_formula.specs.Bounds.{IsBelow, value_limit}
 use Rattle.carol_formula.specs.Claim.{truth, is_at_most_zero}
 use Rattle.carol_formula.specs.Numbers.{number_at, with_number}
-use Rattle.carol_formula.specs.Value.{value_at, sum_at, Fits, SumFits}
+use Rattle.carol_formula.specs.Value.{value_at, SumFits}
 use Rattle.carol_formula.specs.declared.Row.{Row}
 use Rattle.carol_paths.specs.Graph.{edge_at, value_in, IsWithin, Meets, IsPotential, CannotBeMet}
 use Rattle.carol_paths.specs.declared.Edge.{Edge}
 use Rattle.carol_difference.specs.Rows.{AreDifference, IsDifference, IsNarrow, IsUnit, AreOpposite, row_at, claim_of_row, row_limit}
 use Rattle.carol_difference.specs.Decision.{IsMet, CannotBeTrue}
-use Rattle.carol_difference.specs.Split.{IsSplit, number_of}
+use Rattle.carol_difference.specs.Split.{number_of}
 use Rattle.carol_difference.specs.Evidence.{AreApart, GivesNumbers}
 use Rattle.carol_difference.specs.Graph.{variable_at, IsEdgeOf, IsGraph}
 

@@ -1,6 +1,6 @@
 -- The rows of a negative cycle, added up one after another, end in an absurd row.
-use Rattle.std.proofs.Common.{◌≡◌, ℕ, zero, suc, ◌+◌, ◌*◌, ◌^◌, ◌<◌, ◌≤◌, List, [], ◌∷◌, ◌++◌, length, map, get_or, refl, sym, subst, ap, ◌∙◌, arith, Option, Some, None}
-use Rattle.std.specs.Prelude.{slice_get, ℤ, pos, ◌+ℤ◌, ◌-ℤ◌, ◌*ℤ◌, ◌≤ℤ◌, ◌<ℤ◌, neg_ℤ, unsigned_abs}
+use Rattle.std.proofs.Common.{◌≡◌, ℕ, ◌+◌, ◌*◌, ◌^◌, ◌<◌, ◌≤◌, List, [], ◌∷◌, ◌++◌, length, refl, sym, subst, ap, ◌∙◌, arith, Option, Some, None}
+use Rattle.std.specs.Prelude.{slice_get, pos, ◌+ℤ◌, ◌-ℤ◌, ◌*ℤ◌, ◌<ℤ◌, unsigned_abs}
 use Rattle.std.specs.List.{All}
 use Rattle.std.specs.BTreeMap.{BTreeMap}
 use Rattle.std.specs.Option.{option_map}
@@ -8,13 +8,10 @@ use Rattle.std.proofs.lemmas.Bool.Decides.{nat_tests}
 use Rattle.std.proofs.lemmas.Int.{ints}
 use Rattle.std.proofs.lemmas.List.{length_push, get_or_append_left, get_or_push}
 use Rattle.std.proofs.lemmas.Option.{slice_get-map, slice_get-get_or}
-use Rattle.carol_formula.specs.Bounds.{IsBelow, value_limit}
-use Rattle.carol_formula.specs.Linear.{Linear, coefficient_of}
 use Rattle.carol_formula.specs.Claim.{Claim, Le}
 use Rattle.carol_formula.specs.declared.Row.{Row}
 use Rattle.carol_leaf.specs.PlainRow.{PlainRow, row_of, multiple, sum_of_rows, IsSmall, IsAbsurd, zero_row, last_row}
 use Rattle.carol_leaf.specs.Steps.{IsRow, term_of, row_at as made_at, made, CanCombine, IsAllowed, rows_made, AreAllowed, Closes}
-use Rattle.carol_leaf.specs.declared.RowStep.{RowStep}
 use Rattle.carol_leaf.specs.declared.RowStep.TheVariants.{Given, Combine}
 use Rattle.carol_paths.specs.Graph.{edge_at, IsWalk, walk_weight, IsNegativeCycle}
 use Rattle.carol_paths.specs.declared.Edge.{Edge}

@@ -1,5 +1,5 @@
 -- When an answer about rows is right.
-use Rattle.std.specs.Prelude.{◌≡◌, ℕ, List, ℤ, IsTrue, true}
+use Rattle.std.specs.Prelude.{ℕ, List, ℤ, IsTrue}
 use Rattle.std.specs.List.{All}
 use Rattle.carol_formula.specs.Claim.{truth}
 use Rattle.carol_formula.specs.Value.{Fits}

@@ -1,8 +1,6 @@
 -- Rows of differences: the claim that a variable minus another and a constant is at most 0.
-use Rattle.std.specs.Prelude.{◌≡◌, ℕ, ◌+◌, ◌<◌, ◌^◌, ◌⊎◌, List, [], ◌∷◌, length, map, slice_index_or, ℤ, pos, negsuc}
-use Rattle.std.specs.List.{All}
-use Rattle.carol_formula.specs.Bounds.{IsBelow}
-use Rattle.carol_formula.specs.Linear.{Linear, IsWithin, constant_of}
+use Rattle.std.specs.Prelude.{◌≡◌, ℕ, ◌<◌, ◌^◌, ◌⊎◌, List, [], ◌∷◌, length, map, slice_index_or, ℤ, pos, negsuc}
+use Rattle.carol_formula.specs.Linear.{IsWithin, constant_of}
 use Rattle.carol_formula.specs.Claim.{Claim, Le}
 use Rattle.carol_formula.specs.declared.Row.{Row}
 

@@ -1,7 +1,6 @@
 use Rattle.std.proofs.Common.{◌≡◌, ◌+◌, ◌≤◌, ◌^◌, ℕ, List, length, sym, subst, ap, ◌∙◌, arith}
 use Rattle.std.specs.Prelude.{ℤ, unsigned_abs}
 use Rattle.std.specs.List.{All}
-use Rattle.carol_leaf.specs.declared.RowStep.{RowStep}
 use Rattle.carol_leaf.specs.Steps.{Closes}
 use Rattle.carol_paths.specs.declared.Edge.{Edge}
 use Rattle.carol_paths.specs.Graph.{IsAnswer, IsNegativeCycle, IsPotential, CannotBeMet}

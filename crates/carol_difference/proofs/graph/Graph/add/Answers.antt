@@ -1,8 +1,7 @@
-use Rattle.std.proofs.Common.{◌≡◌, ℕ, ◌+◌, ◌<◌, ◌^◌, length, sym, subst, ap, ◌∙◌}
+use Rattle.std.proofs.Common.{◌≡◌, ◌<◌, ◌^◌, sym, subst, ap, ◌∙◌}
 use Rattle.std.specs.Prelude.{ℤ, neg_ℤ, unsigned_abs}
 use Rattle.std.proofs.lemmas.List.{get_or_read}
 use Rattle.carol_formula.specs.declared.Row.{Row}
-use Rattle.carol_difference.specs.Graph.{IsGraph}
 use Rattle.carol_difference.specs.Rows.{row_at}
 use Rattle.carol_difference.specs.Split.{IsSplit}
 use Rattle.carol_difference.proofs.Table.{graph_push, weight_is}

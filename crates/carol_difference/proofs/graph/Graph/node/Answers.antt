@@ -1,6 +1,5 @@
-use Rattle.std.proofs.Common.{◌≡◌, ℕ, List, length, ◌++◌, ◌∷◌, [], sym, subst, ap, ◌∙◌, arith, Some}
-use Rattle.carol_difference.specs.Graph.{Grows, IsTable, variable_at}
-use Rattle.carol_difference.proofs.Table.{Grows-push, Grows-same, variable_at-last, table_push}
+use Rattle.std.proofs.Common.{◌≡◌, length, sym, ap, ◌∙◌, arith}
+use Rattle.carol_difference.proofs.Table.{Grows-push, variable_at-last, table_push}
 use Rattle.carol_difference.proofs.graph.Graph.node.Goals as goal
 
 pub returns-in-Some-clause-node : goal.returns-in-Some-clause-node
