@@ -1,0 +1,15 @@
+//! Readers of the grammar's smallest rules, and what every reader of a rule promises.
+//!
+//! A reader takes the tokens from a place on, and gives what its rule gives there: the tree and the tokens behind it, or
+//! the tokens from the first on with which the rule does not go on.
+#![tactic(auto)]
+
+mod lists;
+mod reader;
+mod terminals;
+
+pub use lists::{AfterComma, Ints, Member, Names, ints, listed, many, names};
+pub use reader::{Halt, Read, Reader};
+pub use terminals::{
+    bit, digit, int, name, next_among, next_is, next_numeral, num, number, positive, word,
+};
