@@ -8,7 +8,7 @@ mod lists;
 mod reader;
 mod terminals;
 
-pub use lists::{AfterComma, Ints, Member, Names, ints, listed, many, names};
+pub use lists::{AfterComma, Member, OneInt, OneName, ints, listed, many, names};
 pub use reader::{Halt, Read, Reader};
 pub use terminals::{
     bit, digit, int, name, next_among, next_is, next_numeral, num, number, positive, word,

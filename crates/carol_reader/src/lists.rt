@@ -85,9 +85,9 @@ pub fn listed<'a, M: Member>(reader: &Reader<'_>, tokens: &'a [Lexeme]) -> Read<
 }
 
 /// Names, as members of a list.
-pub struct Names;
+pub struct OneName;
 
-impl Member for Names {
+impl Member for OneName {
     type Tree = Ident;
 
     ghost starts = { number_of kinds.Name ∷ [] };
@@ -107,13 +107,13 @@ impl Member for Names {
 pub fn names<'a>(reader: &Reader<'_>, tokens: &'a [Lexeme]) -> Read<'a, IdentList>
     ensures { Reads (λ v. v) result (read_by reader.now (rules.listed (rules.name reader.now.bytes.now)) tokens.now) }
 {
-    listed::<Names>(reader, tokens)
+    listed::<OneName>(reader, tokens)
 }
 
 /// Whole numbers, as members of a list.
-pub struct Ints;
+pub struct OneInt;
 
-impl Member for Ints {
+impl Member for OneInt {
     type Tree = i64;
 
     ghost starts = { rules.int_tokens };
@@ -133,5 +133,5 @@ impl Member for Ints {
 pub fn ints<'a>(reader: &Reader<'_>, tokens: &'a [Lexeme]) -> Read<'a, IntList>
     ensures { Reads (λ v. v) result (read_by reader.now (rules.listed rules.int) tokens.now) }
 {
-    listed::<Ints>(reader, tokens)
+    listed::<OneInt>(reader, tokens)
 }
