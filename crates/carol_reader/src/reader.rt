@@ -1,4 +1,4 @@
-ghost use Rattle.std.specs.Prelude.{◌≡◌};
+ghost use Rattle.std.specs.Prelude.{◌≡◌, ◌-◌, ◌<◌};
 
 use carol_tokens::Lexeme;
 use std::alloc::{AllocError, Global};
@@ -11,6 +11,23 @@ pub struct Reader<'a> {
     pub bytes: &'a [u8],
     pub count: usize,
     pub depth: usize,
+}
+
+impl<'a> Reader<'a> {
+    /// The reader of what stands a level deeper.
+    pub fn below(&self) -> Reader<'a>
+        requires { 0 < self.now.depth }
+        ensures count { result.count ≡ self.now.count }
+        ensures depth { result.depth ≡ self.now.depth - 1 }
+        ensures bytes { result.bytes.now ≡ self.now.bytes.now }
+    {
+        Reader {
+            alloc: self.alloc,
+            bytes: self.bytes,
+            count: self.count,
+            depth: self.depth - 1,
+        }
+    }
 }
 
 /// Why a reader stopped.
