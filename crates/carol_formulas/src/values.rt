@@ -112,7 +112,12 @@ fn outcome_value<'a>(reader: &Reader<'_>, tokens: &'a [Lexeme]) -> Read<'a, Valu
 }
 
 // A value of one of the two stores of a guard.
-fn side<'a>(reader: &Reader<'_>, tokens: &'a [Lexeme], side: Kind, kind: ValueKind) -> Read<'a, ValueDecl>
+fn side<'a>(
+    reader: &Reader<'_>,
+    tokens: &'a [Lexeme],
+    side: Kind,
+    kind: ValueKind,
+) -> Read<'a, ValueDecl>
     requires { side ≢ kinds.Number }
     ensures { Reads (λ v. v) result (read_by reader.now (rules.side side kind reader.now.bytes.now) tokens.now) }
 {
@@ -129,7 +134,12 @@ fn side<'a>(reader: &Reader<'_>, tokens: &'a [Lexeme], side: Kind, kind: ValueKi
     ))
 }
 
-fn sized_side<'a>(reader: &Reader<'_>, tokens: &'a [Lexeme], side: Kind, kind: ValueKind) -> Read<'a, (ValueKind, PathDecl)>
+fn sized_side<'a>(
+    reader: &Reader<'_>,
+    tokens: &'a [Lexeme],
+    side: Kind,
+    kind: ValueKind,
+) -> Read<'a, (ValueKind, PathDecl)>
     requires { side ≢ kinds.Number }
     ensures { Reads (λ v. v) result (read_by reader.now (rules.sized_side side kind reader.now.bytes.now) tokens.now) }
 {

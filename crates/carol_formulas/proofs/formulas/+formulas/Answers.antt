@@ -30,9 +30,9 @@ literal-returns-then-next_among t c =
     let d : c.args.reader.now.depth ≡ suc (c.args.reader.now.depth - 1) = omega arith in
     let above = literal_above c.args.reader.now.bytes.now c.args.reader.now.count c.args.reader.now.depth (c.args.reader.now.depth - 1) c.args.tokens.now d e in
     let same : read_by c.below.result rules.nested_literal c.args.tokens.now ≡ reads_within (carol c.args.reader.now.bytes.now) c.args.reader.now.count (c.args.reader.now.depth - 1) rules.nested_literal c.args.tokens.now =
-      ap (λ b. reads_within (carol b) c.below.result.count c.below.result.depth rules.nested_literal c.args.tokens.now) c.below.ensures.bytes
-      ∙ ap (λ n. reads_within (carol c.args.reader.now.bytes.now) n c.below.result.depth rules.nested_literal c.args.tokens.now) c.below.ensures.count
-      ∙ ap (λ n. reads_within (carol c.args.reader.now.bytes.now) c.args.reader.now.count n rules.nested_literal c.args.tokens.now) c.below.ensures.depth in
+    ap (λ b. reads_within (carol b) c.below.result.count c.below.result.depth rules.nested_literal c.args.tokens.now) c.below.ensures.bytes
+    ∙ ap (λ n. reads_within (carol c.args.reader.now.bytes.now) n c.below.result.depth rules.nested_literal c.args.tokens.now) c.below.ensures.count
+    ∙ ap (λ n. reads_within (carol c.args.reader.now.bytes.now) c.args.reader.now.count n rules.nested_literal c.args.tokens.now) c.below.ensures.depth in
     subst (Reads formula_tree c.nested_literal.result) (same ∙ sym above) c.nested_literal.ensures
 
 pub literal-returns : goal.literal-returns

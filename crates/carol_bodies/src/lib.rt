@@ -1,0 +1,7 @@
+//! Readers of statements and bodies.
+#![tactic(auto)]
+
+mod bodies;
+mod statements;
+
+pub use bodies::body;
