@@ -7,6 +7,7 @@ use Rattle.carol_tokens.specs.declared.lexeme.Stop.{Stop}
 use Rattle.carol_tokens.specs.declared.public.Token.{Token}
 use Rattle.carol_tokens.specs.declared.public.TokenKind.{TokenKind}
 use Rattle.carol_tokens.specs.declared.public.TokenKind.TheVariants.{Name, Number, Symbol, Keyword}
+use Rattle.carol_tokens.specs.declared.place.Place.{Place}
 use Rattle.carol_tokens.specs.Place.{start}
 use Rattle.carol_tokens.specs.Cut.{Cut}
 
@@ -39,7 +40,7 @@ token_of lexeme = record { kind = kind_of lexeme.kind; span = lexeme.span; from 
 
 -- the tokens and the stop are what the text is cut into
 abbrev pub AreTokens : List ℕ → List Token → Stop → Type 0
-AreTokens bytes tokens stop = (lexemes : List Lexeme) × Cut start bytes lexemes stop × (tokens ≡ map token_of lexemes)
+AreTokens bytes tokens stop = (lexemes : List Lexeme) × (end : Place) × Cut start bytes lexemes stop end × (tokens ≡ map token_of lexemes)
 
 -- whatever the text is cut into are these tokens and this stop
 abbrev pub AreOnly : List ℕ → List Token → Stop → Type 0

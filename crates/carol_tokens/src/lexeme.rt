@@ -1,9 +1,10 @@
-ghost use Rattle.std.specs.Prelude.{◌≡◌, ◌+◌, ◌<◌, ◌≤◌, ◌^◌, ◌-◌, length, List, IfOk};
+ghost use Rattle.std.specs.Prelude.{◌≡◌, ◌+◌, ◌<◌, ◌≤◌, ◌^◌, ◌-◌, ℕ, length, List, IfOk};
 ghost use Rattle.carol_tokens.specs.Place.{start, place_over, span_of};
-ghost use Rattle.carol_tokens.specs.Cut.{Cut, Stops, is_transcript, lexeme_at, stop_of_tail};
+ghost use Rattle.carol_tokens.specs.Cut.{Cut, Stops, StandBetween, is_transcript, lexeme_at, stop_of_tail};
 ghost use Rattle.carol_tokens.specs.First.{first_token};
 ghost use Rattle.carol_tokens.specs.declared.lexeme.Lexeme.{Lexeme};
 ghost use Rattle.carol_tokens.specs.declared.lexeme.Stop.{Stop};
+ghost use Rattle.carol_tokens.specs.declared.place.Place.{Place};
 
 use crate::found::{Found, first};
 use crate::kind::Kind;
@@ -33,11 +34,13 @@ pub enum Stop {
     Bad(Span),
 }
 
-/// What a text is cut into.
+/// What a text is cut into, and where cutting stopped: behind the last byte, at the byte that begins no token, or behind
+/// the word `transcript`.
 #[derive(Debug, Drop)]
 pub struct Lexemes {
     pub list: Items<Lexeme>,
     pub stop: Stop,
+    pub end: Place,
 }
 
 fn span_at(at: Place) -> Span
@@ -90,11 +93,19 @@ fn begins_tail(kind: Kind) -> bool
     matches!(kind, Kind::Transcript)
 }
 
+/// A text is cut in one way.
+pub fn one_cut()
+    ensures { (bytes : List ℕ) (xs ys : List Lexeme) (s t : Stop) (d e : Place) → Cut start bytes xs s d → Cut start bytes ys t e → (xs ≡ ys) × (s ≡ t) × (d ≡ e) }
+{}
+
 /// Cuts a text into its tokens, the longest one each time.
 pub fn cut(alloc: Global, bytes: &[u8]) -> Result<Lexemes, AllocError>
     requires { length bytes.now ≤ 67_108_864 }
-    ensures cut { IfOk result (λ all. Cut start bytes.now all.list all.stop) }
-    ensures only { IfOk result (λ all. (list : List Lexeme) (stop : Stop) → Cut start bytes.now list stop → (list ≡ all.list) × (stop ≡ all.stop)) }
+    ensures cut { IfOk result (λ all. Cut start bytes.now all.list all.stop all.end) }
+    ensures only { IfOk result (λ all. (list : List Lexeme) (stop : Stop) (end : Place) → Cut start bytes.now list stop end → (list ≡ all.list) × (stop ≡ all.stop) × (end ≡ all.end)) }
+    ensures ordered { IfOk result (λ all. StandBetween 0 all.list all.end.offset) }
+    ensures within { IfOk result (λ all. all.end.offset ≤ length bytes.now) }
+    ensures whole { IfOk result (λ all. all.stop ≡ Stop.End → all.end.offset ≡ length bytes.now) }
 {
     let mut list = Items::new(alloc);
     let start = Place {
@@ -109,10 +120,18 @@ pub fn cut(alloc: Global, bytes: &[u8]) -> Result<Lexemes, AllocError>
         let next = over(at, found.length);
         if begins_tail(found.kind) {
             let stop = tail_stop(next, more);
-            return Ok(Lexemes { list, stop });
+            return Ok(Lexemes {
+                list,
+                stop,
+                end: next,
+            });
         }
         (at, rest) = behind_space(next, more);
     }
     let stop = end_stop(at, rest);
-    Ok(Lexemes { list, stop })
+    Ok(Lexemes {
+        list,
+        stop,
+        end: at,
+    })
 }

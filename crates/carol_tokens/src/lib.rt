@@ -11,6 +11,6 @@ mod tests;
 
 pub use found::{Found, LARGEST, first};
 pub use kind::{Kind, word_kind};
-pub use lexeme::{Lexeme, Lexemes, Stop, cut};
+pub use lexeme::{Lexeme, Lexemes, Stop, cut, one_cut};
 pub use place::{Place, over};
 pub use public::{Lexed, Token, TokenKind, TokenList, tokens};

@@ -1,0 +1,11 @@
+//! Readers of scenes, of their sessions and commands, and of scripts.
+#![tactic(auto)]
+
+mod commands;
+mod scripts;
+mod sessions;
+mod stages;
+#[cfg(test)]
+mod tests;
+
+pub use stages::{Sequel, Stage, some_stage};
