@@ -1,0 +1,41 @@
+-- What was answered is what the text means.
+use Rattle.std.proofs.Common.{◌≡◌, ℕ, ◌+◌, List, length, take, Option, subst, sym, ◌∙◌}
+use Rattle.std.specs.Prelude.{Some, None, IfSome, Result}
+use Rattle.carol_grammar.specs.Reading.{Reading, reads_within, ended}
+use Rattle.carol_grammar.specs.Found.{Answers}
+use Rattle.carol_syntax.specs.declared.files.File.{File}
+use Rattle.carol_syntax.specs.Files.{FileTree}
+use Rattle.carol_tokens.specs.declared.lexeme.Lexeme.{Lexeme}
+use Rattle.carol_tokens.specs.declared.lexeme.Lexemes.{Lexemes}
+use Rattle.carol_tokens.specs.Cut.{StandBetween}
+use Rattle.carol_rules.specs.Rules.{carol, file, read_file}
+use Rattle.carol_limits.specs.declared.reading.Reach.{Reach}
+use Rattle.carol_limits.specs.Outcome.{Outcome, AreParts, Means, tail_of}
+use Rattle.carol_limits.specs.Reach.{Reaches, told}
+use Rattle.carol_parse.specs.declared.error.TextError.{TextError}
+use Rattle.carol_parse.specs.Answer.{said, Says, IsMeant, IsOnlyMeant}
+
+holds_of : (P : Outcome → Type 0) (o : Outcome) (s : Option Outcome) → IfSome s (λ p. p ≡ o) → P o → IfSome s P
+holds_of P o None e h = tt
+holds_of P o (Some p) e h = subst P (sym e) h
+
+abbrev ToldMeans : Type 0
+ToldMeans = (bytes : List ℕ) (parts : Lexemes) (reach : Reach) (reading : Reading Lexeme FileTree) → AreParts bytes parts → StandBetween 0 parts.list parts.end.offset → Reaches bytes parts reach → Answers (carol bytes) (file bytes (tail_of parts.stop)) (take reach.count parts.list) reading → Means bytes (told parts reach.limit reading)
+
+abbrev ReadingAnswers : Type 0
+ReadingAnswers = (bytes : List ℕ) (tail : ℕ) (ts : List Lexeme) → Answers (carol bytes) (file bytes tail) ts (read_file bytes tail ts)
+
+abbrev tells : List ℕ → Lexemes → Reach → ℕ → List Lexeme → Outcome
+tells bytes parts reach tail ts = told parts reach.limit (ended (reads_within (carol bytes) (length ts + 1) (length ts + 1) (file bytes tail) ts))
+
+module _ (told_means : ToldMeans) (reading_answers : ReadingAnswers) (bytes : List ℕ) (parts : Lexemes) (reach : Reach) (cut : AreParts bytes parts) (between : StandBetween 0 parts.list parts.end.offset) (reaches : Reaches bytes parts reach) where
+  means : (tail : ℕ) (ts : List Lexeme) → tail ≡ tail_of parts.stop → ts ≡ take reach.count parts.list → Means bytes (tells bytes parts reach tail ts)
+  means tail ts e f =
+      let here = told_means bytes parts reach (read_file bytes (tail_of parts.stop) (take reach.count parts.list)) cut between reaches (reading_answers bytes (tail_of parts.stop) (take reach.count parts.list)) in
+      subst (λ n. Means bytes (tells bytes parts reach n ts)) (sym e) (subst (λ us. Means bytes (tells bytes parts reach (tail_of parts.stop) us)) (sym f) here)
+
+  pub is_meant : (tail : ℕ) (ts : List Lexeme) (result : Result File TextError) → tail ≡ tail_of parts.stop → ts ≡ take reach.count parts.list → Says result (tells bytes parts reach tail ts) → IsMeant bytes result
+  is_meant tail ts result e f s = holds_of (Means bytes) (tells bytes parts reach tail ts) (said result) s (means tail ts e f)
+
+  pub is_only : ((bytes : List ℕ) (one other : Outcome) → Means bytes one → Means bytes other → one ≡ other) → (tail : ℕ) (ts : List Lexeme) (result : Result File TextError) → tail ≡ tail_of parts.stop → ts ≡ take reach.count parts.list → Says result (tells bytes parts reach tail ts) → IsOnlyMeant bytes result
+  is_only once tail ts result e f s = holds_of (λ o. (other : Outcome) → Means bytes other → other ≡ o) (tells bytes parts reach tail ts) (said result) s (λ other m. once bytes other (tells bytes parts reach tail ts) m (means tail ts e f))
