@@ -1,5 +1,5 @@
-pub mod PartLaws
-pub mod ManyLaws
-pub mod ItemLaws
-pub mod InputLaws
+pub mod Bools
+pub mod AdderLaws
+pub mod PlainLaws
 pub mod StartLaws
+pub mod StandsLaws

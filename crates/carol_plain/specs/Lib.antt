@@ -1,4 +1,5 @@
-pub mod Rules
-pub mod Text
-pub mod Reading
+pub mod Only
+pub mod Adder
+pub mod Plain
 pub mod Start
+pub mod Tests

@@ -1,24 +1,28 @@
-ghost use Rattle.std.specs.Prelude.{◌≡◌, nat_le, nat_lt, length, IfOk, MatchResult};
-ghost use Rattle.std.specs.List.{list_all, sum_by};
+ghost use Rattle.std.specs.Prelude.{◌≡◌, ◌↔◌, ◌≤◌, ⊤, Some, None, List, length, IsTrue, IfOk, MatchResult, OnErr, MatchOption};
 ghost use Rattle.carol_history.specs.Setup.{IsSetup};
-ghost use Rattle.carol_plain.specs.declared.error.PlainError.TheVariants.{NoMemory};
+ghost use Rattle.carol_syntax.specs.declared.scenes.SceneDecl.{SceneDecl};
+ghost use Rattle.carol_syntax.specs.declared.scenes.ScriptLine.{ScriptLine};
+ghost use Rattle.carol_syntax.specs.Files.{file_tree, program_tree};
+ghost use Rattle.carol_plain.specs.declared.error.PlainError.TheVariants.{NotPlain, NoMemory};
 ghost use Rattle.carol_plain.specs.declared.input.PlainInput.{PlainInput};
-ghost use Rattle.carol_plain.specs.Rules.{IsPlainInput};
+ghost use Rattle.carol_plain.specs.Plain.{input_of, Stands};
 ghost use Rattle.carol_plain.specs.Start.{setup_of};
-ghost use Rattle.carol_plain.specs.Text.{program_text, plain_text};
-ghost use Rattle.carol_plain.specs.Reading.{Finds, Gives, after_word, keeps_rules, parts_at, input_at};
+ghost use Rattle.carol_plain.specs.Tests.{are_plain};
 
 use crate::error::PlainError;
-use crate::parts::follows;
-use crate::scene::limits_of;
-use crate::script::script_of;
-use crate::session::sessions_of;
-use carol_history::{PlainLines, PlainSession, PlainSessions};
-use std::alloc::Global;
+use crate::meaning::{sessions_of, starts_of};
+use crate::program::is_plain_program;
+use crate::scenes::is_plain_scene;
+use crate::scripts::{is_plain_script, lines_of};
+use carol_history::{PlainLines, PlainSessions};
+use carol_syntax::{File, IntList, ProgramDecl, SceneDecl, ScriptLine};
+use std::alloc::{AllocError, Global};
 
-/// What a plain input says besides its fixed program.
+/// What a file in the plain form stands for.
 #[derive(Debug, Drop)]
 pub struct PlainInput {
+    /// What the counters are at the start, at most 10^12 in absolute value each. There are at most 16 of them.
+    pub starts: IntList,
     /// How many replicas there are, from 1 to 8.
     pub replicas: u32,
     /// From 1 to 16.
@@ -33,101 +37,66 @@ pub struct PlainInput {
     pub script: PlainLines,
 }
 
-const PROGRAM: &[u8] = b"program
-counter a = 0;
-counter b = 5;
-invariant true;
-op adda(n: -1000000000 <= n and n <= 1000000000) gives true {
-issue a += n;
-return n;
-}
-op addb(n: -1000000000 <= n and n <= 1000000000) gives true {
-issue b += n;
-return n;
-}
-end
-";
-
-#[tactic(auto, unfolding(crate::specs::Text::program_text))]
-fn after_program(bytes: &[u8]) -> Option<&[u8]>
-    ensures { Finds (λ x. x.now) result (after_word program_text bytes.now) }
+#[tactic(auto, unfolding(crate::specs::Tests::are_plain))]
+fn are_plain(program: &ProgramDecl, scene: &SceneDecl, script: &[ScriptLine]) -> bool
+    ensures { result ≡ are_plain (program_tree program.now) scene.now script.now }
 {
-    follows(bytes, PROGRAM)
+    is_plain_program(program) && is_plain_scene(program, scene) && is_plain_script(script)
 }
 
-#[tactic(auto, unfolding(crate::specs::Reading::parts_at))]
-fn parts_of(alloc: Global, bytes: &[u8]) -> Result<(PlainInput, &[u8]), PlainError>
-    ensures { Gives (λ x. (x.0, x.1.now)) result (parts_at bytes.now) }
+// What the parts of a file in the plain form stand for.
+fn input_of(
+    alloc: Global,
+    program: &ProgramDecl,
+    scene: &SceneDecl,
+    script: &[ScriptLine],
+) -> Result<PlainInput, AllocError>
+    requires { IsTrue (are_plain (program_tree program.now) scene.now script.now) }
+    ensures { IfOk result (λ input. input ≡ input_of (program_tree program.now) scene.now script.now) }
 {
-    let rest = after_program(bytes).ok_or(PlainError::NotPlain)?;
-    let (limits, rest) = limits_of(rest).ok_or(PlainError::NotPlain)?;
-    let (sessions, rest) = sessions_of(alloc, rest)?;
-    let (script, rest) = script_of(alloc, rest)?;
-    let input = PlainInput {
-        replicas: limits.replicas,
-        tries: limits.tries,
-        workers: limits.workers,
-        gossipers: limits.gossipers,
+    let starts = starts_of(alloc, program.cells.as_slice())?;
+    let sessions = sessions_of(alloc, program, scene.sessions.as_slice())?;
+    let script = lines_of(alloc, script)?;
+    Ok(PlainInput {
+        starts,
+        replicas: scene.replicas.value as u32,
+        tries: scene.tries.value as u32,
+        workers: scene.workers.value as u32,
+        gossipers: scene.gossipers.value as u32,
         sessions,
         script,
-    };
-    Ok((input, rest))
+    })
 }
 
-// Whether the sessions have few enough commands in all.
-fn are_few(sessions: &[PlainSession]) -> bool
-    ensures { result ≡ nat_le (sum_by (λ session. length session.commands) sessions.now) 4096 }
+// The parts of a file, where it has them all.
+fn parts(file: &File) -> Option<(&SceneDecl, &[ScriptLine])>
+    ensures { MatchOption result ((scene : SceneDecl) (script : List ScriptLine) → file.now.scene ≡ Some scene → file.now.script ≡ Some script → ⊥) (λ p. (file.now.scene ≡ Some p.0.now) × (file.now.script ≡ Some p.1.now)) }
 {
-    let mut left: usize = 4096;
-    for session in sessions {
-        let count = session.commands.len();
-        if count > left {
-            return false;
-        }
-        left -= count;
-    }
-    true
-}
-
-fn are_placed(sessions: &[PlainSession], replicas: u32) -> bool
-    ensures { result ≡ list_all (λ session. nat_lt session.replica replicas) sessions.now }
-{
-    sessions.iter().all(|session| session.replica < replicas)
-}
-
-// Whether the rules hold that no part keeps by itself.
-#[tactic(auto, unfolding(crate::specs::Reading::keeps_rules))]
-fn is_kept(input: &PlainInput) -> bool
-    ensures { result ≡ keeps_rules input.now }
-{
-    let sessions = input.sessions.as_slice();
-    let are_placed = are_placed(sessions, input.replicas);
-    let are_few = are_few(sessions);
-    input.replicas >= 1 && input.tries >= 1 && input.workers >= 1 && are_placed && are_few
-}
-
-#[tactic(auto, unfolding(crate::specs::Reading::input_at))]
-fn whole(alloc: Global, bytes: &[u8]) -> Result<PlainInput, PlainError>
-    ensures { Gives (λ x. x) result (input_at bytes.now) }
-{
-    let (input, rest) = parts_of(alloc, bytes)?;
-    if rest.is_empty() && is_kept(&input) {
-        Ok(input)
-    } else {
-        Err(PlainError::NotPlain)
+    match (&file.scene, &file.script) {
+        (Some(scene), Some(script)) => Some((scene, script.as_slice())),
+        _ => None,
     }
 }
 
-/// The plain input that all of the bytes are the text of.
-pub fn plain_input(alloc: Global, bytes: &[u8]) -> Result<PlainInput, PlainError>
-    // What is found keeps the rules, and its text is the bytes.
-    ensures found { IfOk result (λ p. IsPlainInput p × (bytes.now ≡ plain_text p)) }
-    // Where the bytes are the text of a plain input, it is the one that is found, unless memory runs out.
-    ensures only { (p : PlainInput) → IsPlainInput p → bytes.now ≡ plain_text p
-        → MatchResult result (λ x. x ≡ p) (λ e. e ≡ NoMemory) }
+/// What a file in the plain form stands for.
+pub fn plain_input(alloc: Global, file: &File) -> Result<PlainInput, PlainError>
+    // What is found is what the file stands for.
+    ensures found { IfOk result (λ input. Stands (file_tree file.now) input) }
+    // Where the file stands for an input, it is the one that is found, unless memory runs out.
+    ensures only { (input : PlainInput) → Stands (file_tree file.now) input → MatchResult result (λ x. x ≡ input) (λ e. e ≡ NoMemory) }
+    // That there is no plain form is said exactly where it stands for none.
+    ensures none { (result ≡ Err NotPlain) ↔ ((input : PlainInput) → Stands (file_tree file.now) input → ⊥) }
     // A history can be made over what is found.
-    ensures start { IfOk result (λ p. IsSetup (setup_of p)) }
-    ensures exact { Gives (λ x. x) result (input_at bytes.now) }
+    ensures start { IfOk result (λ input. IsSetup (setup_of input)) }
+    // It has few enough counters, and its script few enough statements to be run.
+    ensures cells { IfOk result (λ input. length input.starts ≤ 16) }
+    ensures lines { IfOk result (λ input. length input.script ≤ 131_072) }
 {
-    whole(alloc, bytes)
+    let Some((scene, script)) = parts(file) else {
+        return Err(PlainError::NotPlain);
+    };
+    if !are_plain(&file.program, scene, script) {
+        return Err(PlainError::NotPlain);
+    }
+    Ok(input_of(alloc, &file.program, scene, script)?)
 }

@@ -1,13 +1,16 @@
-//! The plain input: a fixed program with two counters, a scene of sessions, and a script, read byte for byte.
+//! The plain form of a file: counters, operations that each add their argument to one of them, a scene of sessions, and a script of steps and gossip.
 #![tactic(auto)]
 
-mod command;
 mod error;
+mod formulas;
 mod input;
-mod parts;
-mod scene;
-mod script;
-mod session;
+mod meaning;
+mod only;
+mod operations;
+mod program;
+mod scenes;
+mod scripts;
+mod terms;
 
 pub use error::PlainError;
 pub use input::{PlainInput, plain_input};

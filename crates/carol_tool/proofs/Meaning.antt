@@ -2,25 +2,45 @@
 use Rattle.std.proofs.Common.{◌≡◌, ◌≢◌, ◌<◌, ◌≤◌, ℕ, List, length, sym, subst, ◌∙◌, inl, inr, arith}
 use Rattle.std.specs.Prelude.{Option}
 use Rattle.std.specs.Io.KnownBytes.{Consumes, IsAtEnd}
+use Rattle.carol_syntax.specs.Files.{FileTree}
+use Rattle.carol_limits.specs.Outcome.{Outcome, Read, Bad, Large}
 use Rattle.carol_tool.specs.declared.status.Status.{Status}
 use Rattle.carol_tool.specs.declared.status.Status.TheVariants as status
 use Rattle.carol_tool.specs.Words.{IsCommand}
-use Rattle.carol_tool.specs.Step.{Says}
+use Rattle.carol_tool.specs.Step.{Says, SaysOf}
 use Rattle.carol_tool.specs.Answer.{Means, Wrote, Answered, most_bytes}
+
+-- the statuses that it may say
+abbrev IsSaid : Status → Type 0
+IsSaid status.Ok = Unit {0}
+IsSaid status.Text = Unit {0}
+IsSaid status.Script = Unit {0}
+IsSaid _ = ⊥
+
+of_file : (file : FileTree) (s : Status) (text : List ℕ) → SaysOf file s text → IsSaid s
+of_file file status.Ok text h = tt
+of_file file status.Text text h = tt
+of_file file status.Script text h = tt
+of_file file s text h = h
+
+is_said : (bytes text : List ℕ) (s : Status) → Says bytes s text → IsSaid s
+is_said bytes text s (Read file, m, h) = of_file file s text h
+is_said bytes text s (Bad line column, m, h) = subst IsSaid (sym h.0) tt
+is_said bytes text s (Large limit, m, h) = subst IsSaid (sym h.0) tt
 
 -- it never says that there was a fault
 pub says_no_fault : (bytes text : List ℕ) (s : Status) → Says bytes s text → (s ≢ status.ReadFault) × (s ≢ status.WriteFault)
-says_no_fault bytes text status.Ok h = (λ e. cc, λ e. cc)
-says_no_fault bytes text status.Text h = (λ e. cc, λ e. cc)
-says_no_fault bytes text status.Script h = (λ e. cc, λ e. cc)
-says_no_fault bytes text s h = absurd h
+says_no_fault bytes text s h = (λ e. subst IsSaid e (is_said bytes text s h), λ e. subst IsSaid e (is_said bytes text s h))
 
 -- what it says is what the bytes mean
+means_by : (words : List (List ℕ)) (bytes text : List ℕ) (s : Status) → IsSaid s → IsCommand words → length bytes ≤ most_bytes → Says bytes s text → Means words bytes s text
+means_by words bytes text status.Ok said command short h = (command, short, h)
+means_by words bytes text status.Text said command short h = (command, short, h)
+means_by words bytes text status.Script said command short h = (command, short, h)
+means_by words bytes text s said command short h = absurd said
+
 pub means_of_says : (words : List (List ℕ)) (bytes text : List ℕ) (s : Status) → IsCommand words → length bytes ≤ most_bytes → Says bytes s text → Means words bytes s text
-means_of_says words bytes text status.Ok command short h = (command, short, h)
-means_of_says words bytes text status.Text command short h = (command, short, h)
-means_of_says words bytes text status.Script command short h = (command, short, h)
-means_of_says words bytes text s command short h = absurd h
+means_of_says words bytes text s command short h = means_by words bytes text s (is_said bytes text s h) command short h
 
 -- a status that is no fault of the source is not answered as one
 pub wrote_no_fault : (old new : Option (List ℕ)) (s answered : Status) (text : List ℕ) → Wrote old new s text answered → s ≢ status.ReadFault → answered ≢ status.ReadFault
