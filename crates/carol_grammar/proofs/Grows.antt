@@ -6,7 +6,7 @@ use Rattle.carol_grammar.specs.Sentence.{Repeats, Perhaps, Sentence, Deep}
 
 -- What is a sentence within some bounds is one within larger ones.
 
-repeats_grows : {T A : Type 0} (L M : List T → A → Type 0) (n m : ℕ) → n ≤ m → ((ts : List T) (v : A) → L ts v → M ts v) → (ts : List T) (vs : List A) → Repeats n L ts vs → Repeats m M ts vs
+pub repeats_grows : {T A : Type 0} (L M : List T → A → Type 0) (n m : ℕ) → n ≤ m → ((ts : List T) (v : A) → L ts v → M ts v) → (ts : List T) (vs : List A) → Repeats n L ts vs → Repeats m M ts vs
 repeats_grows L M n m h f ts [] l = l
 repeats_grows L M zero m h f ts (v ∷ vs) l = absurd l
 repeats_grows L M (suc n) zero h f ts (v ∷ vs) l = absurd (omega arith)

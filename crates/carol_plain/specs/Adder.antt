@@ -19,19 +19,23 @@ use Rattle.carol_plain.specs.Only.{only}
 abbrev pub most_argument : ℕ
 most_argument = 1_000_000_000
 
--- trees without places: a name, a term of one product, a number with or without `-`, and the parameter `n`
+-- a name without a place
 abbrev pub name_of : List ℕ → Ident
 name_of word = record { word = word; span = nowhere }
 
+-- a term of one product
 abbrev pub only_product : ProductDecl → TermDecl
 only_product product = record { span = nowhere; products = product ∷ [] }
 
+-- a number, with `-` or without
 abbrev pub number_term : Bool → ℕ → TermDecl
 number_term minus n = only_product (record { minus = minus; factor = Some n; value = None })
 
+-- the word `n`
 abbrev pub parameter : List ℕ
 parameter = codes "n"
 
+-- the term `n`
 abbrev pub argument_term : TermDecl
 argument_term =
     only_product (record { minus = false; factor = None; value = Some (record { span = nowhere; kind = way.Plain; parts = name_of parameter ∷ [] }) })
@@ -59,11 +63,12 @@ adder name counter = record {
 abbrev pub AddsTo : List ℕ → OpTree → Type 0
 AddsTo counter op = unplaced_op op ≡ adder op.name.word counter
 
--- the name of the one cell that an operation's one statement changes
+-- the name of the one cell that a statement changes
 abbrev pub changed_word : Statement → Option (List ℕ)
 changed_word (statement.Issue atoms) = option_and_then (λ atom. option_map (λ name. name.word) (only atom.path.parts)) (only atoms)
 changed_word _ = None
 
+-- the same of a body of one statement, and of an operation
 abbrev pub target_of_body : BodyTree → Option (List ℕ)
 target_of_body (Answer plain value) = option_and_then changed_word (only plain)
 target_of_body (Choice plain test first second) = None

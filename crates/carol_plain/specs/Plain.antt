@@ -28,9 +28,11 @@ cell_word (cell.Field f) = f.name.word
 cell_word (cell.Set name members) = name.word
 cell_word (cell.Record name fields) = name.word
 
+-- the names of the declarations of cells
 abbrev pub cell_words : ProgramTree → List (List ℕ)
 cell_words program = map cell_word program.cells
 
+-- the name of an operation, and those of all
 abbrev pub op_word : OpTree → List ℕ
 op_word op = op.name.word
 
@@ -41,6 +43,7 @@ op_words program = map op_word program.ops
 abbrev pub most_start : ℕ
 most_start = 1_000_000_000_000
 
+-- the cell is a counter by itself, small enough at the start
 abbrev pub IsCounter : CellDecl → Type 0
 IsCounter (cell.Field f) = (f.kind ≡ Counter) × (unsigned_abs f.start ≤ most_start)
 IsCounter _ = ⊥
@@ -53,6 +56,7 @@ cell_of cells op = option_and_then (λ counter. position (λ cell. bytes_eq coun
 abbrev pub IsAdder : List CellDecl → OpTree → Type 0
 IsAdder cells op = IsSomeAnd (target_of op) (λ counter. AddsTo counter op) × IsSome (cell_of cells op)
 
+-- a program of at most 16 counters and 64 operations, each with a name of its own, whose invariant is `true`
 pub record IsPlainProgram (program : ProgramTree) : Type 0 where
   pub cells : length program.cells ≤ 16
   pub counters : All IsCounter program.cells
@@ -65,10 +69,11 @@ pub record IsPlainProgram (program : ProgramTree) : Type 0 where
 
 -- The scene.
 
--- the operation of this name, and the number of the cell that it adds to
+-- the operation of this name
 abbrev pub op_named : ProgramTree → List ℕ → Option OpTree
 op_named program word = find (λ op. bytes_eq op.name.word word) program.ops
 
+-- the number of the cell that the operation of this name adds to
 abbrev pub cell_added_to : ProgramTree → List ℕ → Option ℕ
 cell_added_to program word = option_and_then (cell_of program.cells) (op_named program word)
 
@@ -78,6 +83,7 @@ pub record IsPlainCall (program : ProgramTree) (command : CommandDecl) : Type 0 
   pub argument : IsSomeAnd (only command.args) (λ n. unsigned_abs n ≤ most_argument)
   pub times : (1 ≤ command.times.value) × (command.times.value ≤ 4096)
 
+-- a session at a replica that is there, of such calls
 pub record IsPlainSession (program : ProgramTree) (replicas : ℕ) (session : SessionDecl) : Type 0 where
   pub placed : session.replica.value < replicas
   pub calls : All (IsPlainCall program) session.commands
@@ -86,6 +92,7 @@ pub record IsPlainSession (program : ProgramTree) (replicas : ℕ) (session : Se
 abbrev pub commands_of : List SessionDecl → ℕ
 commands_of sessions = sum_by (λ session. sum_by (λ command. command.times.value) session.commands) sessions
 
+-- a scene of at most 64 sessions, which stand for at most 4096 commands in all
 pub record IsPlainScene (program : ProgramTree) (scene : SceneDecl) : Type 0 where
   pub replicas : (1 ≤ scene.replicas.value) × (scene.replicas.value ≤ 8)
   pub tries : (1 ≤ scene.tries.value) × (scene.tries.value ≤ 16)
@@ -103,31 +110,35 @@ line_of (said.Go session) = Some (Go session)
 line_of (said.Gossip source target) = Some (Gossip source target)
 line_of _ = None
 
+-- at most 131072 statements, none of them a cut or a join
 pub record IsPlainScript (script : List ScriptLine) : Type 0 where
   pub few : length script ≤ 131_072
   pub plain : All (λ line. IsSome (line_of line)) script
 
 -- What the three parts stand for.
 
+-- what a cell by itself is at the start
 abbrev pub start_of : CellDecl → Option ℤ
 start_of (cell.Field f) = Some f.start
 start_of _ = None
 
--- one such command
+-- the command that a call stands for once
 abbrev pub one_command : ProgramTree → CommandDecl → Option PlainCommand
 one_command program command =
     option_and_then (λ cell. option_map (λ amount. record { cell = cell; amount = amount }) (only command.args)) (cell_added_to program command.name.word)
 
--- all commands that it stands for
+-- all commands that a call stands for: the same one, as often as `times` says
 abbrev pub all_commands : ProgramTree → CommandDecl → List PlainCommand
 all_commands program command = elim (one_command program command) [
   | None ↦ []
   | Some one ↦ replicate command.times.value one
 ]
 
+-- what a session stands for
 abbrev pub session_of : ProgramTree → SessionDecl → PlainSession
 session_of program session = record { replica = session.replica.value; commands = flat_map (all_commands program) session.commands }
 
+-- what a program, a scene and a script stand for together
 abbrev pub input_of : ProgramTree → SceneDecl → List ScriptLine → PlainInput
 input_of program scene script = record {
   starts = filter_map start_of program.cells;
@@ -139,7 +150,7 @@ input_of program scene script = record {
   script = filter_map line_of script;
 }
 
--- The file is in the plain form, and stands for this input.
+-- the file is in the plain form, and stands for this input
 pub record Stands (file : FileTree) (input : PlainInput) : Type 0 where
   pub scene : SceneDecl
   pub script : List ScriptLine

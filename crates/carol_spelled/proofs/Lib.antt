@@ -1,0 +1,10 @@
+pub mod Reached
+pub mod Terminals
+pub mod Lists
+pub mod Cells
+pub mod Terms
+pub mod Formulas
+pub mod Bodies
+pub mod Programs
+pub mod Scenes
+pub mod Files
