@@ -1,5 +1,5 @@
 -- The end of a body at a level: a choice, whose bodies are a level deeper, or a return.
-use Rattle.std.proofs.Common.{◌≡◌, ℕ, zero, suc, Bool, true, false, cond, List, [], ◌∷◌, refl, sym, ◌∙◌, ap, arith, ◌⊎◌, inl, inr}
+use Rattle.std.proofs.Common.{◌≡◌, ℕ, zero, suc, true, false, cond, List, [], ◌∷◌, refl, ◌∙◌, ap, arith, ◌⊎◌, inl, inr}
 use Rattle.carol_grammar.specs.Reading.{Reading, reads, reads_deep, reads_within, next_in}
 use Rattle.carol_tokens.specs.declared.lexeme.Lexeme.{Lexeme}
 use Rattle.carol_tokens.specs.declared.kind.Kind.TheVariants as k

@@ -1,7 +1,6 @@
 -- A literal at a level: one that others stand in, a level deeper, or one that no other stands in.
-use Rattle.std.proofs.Common.{◌≡◌, ℕ, zero, suc, Bool, true, false, cond, List, [], ◌∷◌, refl, sym, ◌∙◌, ap, arith, ◌⊎◌, inl, inr}
+use Rattle.std.proofs.Common.{◌≡◌, ℕ, zero, suc, true, false, cond, List, [], ◌∷◌, refl, ◌∙◌, ap, arith, ◌⊎◌, inl, inr}
 use Rattle.carol_grammar.specs.Reading.{Reading, reads, reads_deep, reads_within, next_in}
-use Rattle.carol_syntax.specs.Formulas.{FormulaTree}
 use Rattle.carol_tokens.specs.declared.lexeme.Lexeme.{Lexeme}
 use Rattle.carol_tokens.specs.declared.kind.Kind.TheVariants as k
 use Rattle.carol_rules.specs.Terminals.{class_of, number_of}

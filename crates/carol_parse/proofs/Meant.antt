@@ -1,5 +1,5 @@
 -- What was answered is what the text means.
-use Rattle.std.proofs.Common.{◌≡◌, ℕ, ◌+◌, List, length, take, Option, subst, sym, ◌∙◌}
+use Rattle.std.proofs.Common.{◌≡◌, ℕ, ◌+◌, List, length, take, Option, subst, sym}
 use Rattle.std.specs.Prelude.{Some, None, IfSome, Result}
 use Rattle.carol_grammar.specs.Reading.{Reading, reads_within, ended}
 use Rattle.carol_grammar.specs.Found.{Answers}

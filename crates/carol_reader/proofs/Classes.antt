@@ -1,6 +1,6 @@
 -- When a token has the class of a word or a symbol.
-use Rattle.std.proofs.Common.{◌≡◌, ◌≢◌, get_or, ℕ, zero, suc, ◌<◌, ◌≤◌, Bool, true, false, eqb, cond, not, ◌||◌, nat_le, nat_lt, List, [], ◌∷◌, length, inl, inr, refl, sym, ◌∙◌, ap, arith}
-use Rattle.std.specs.Prelude.{◌^◌, ◌&&◌, take, drop}
+use Rattle.std.proofs.Common.{◌≡◌, ◌≢◌, ℕ, zero, suc, ◌<◌, ◌≤◌, Bool, true, false, eqb, cond, ◌||◌, nat_le, List, [], ◌∷◌, length, inl, inr, refl, sym, ◌∙◌, ap, arith}
+use Rattle.std.specs.Prelude.{◌&&◌}
 use Rattle.std.proofs.lemmas.Bool.Decides.{nat_tests}
 use Rattle.carol_grammar.specs.Sets.{has}
 use Rattle.carol_grammar.specs.Reading.{next_in}

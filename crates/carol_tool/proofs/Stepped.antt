@@ -11,7 +11,7 @@ use Rattle.carol_parse.specs.Answer.{IsMeant, IsOnlyMeant}
 use Rattle.carol_tool.specs.declared.step.Said.{Said}
 use Rattle.carol_plain.specs.declared.input.PlainInput.{PlainInput}
 use Rattle.carol_plain.specs.Plain.{Stands}
-use Rattle.carol_tool.specs.Step.{Says, SaysOf, SaysAt, HasParts, fault_text, large_text}
+use Rattle.carol_tool.specs.Step.{Says, SaysOf, SaysAt, HasParts}
 use Rattle.carol_tool.specs.declared.status.Status.{Status}
 use Rattle.carol_tool.specs.declared.status.Status.TheVariants as status
 

@@ -1,4 +1,4 @@
-use Rattle.std.proofs.Common.{◌≡◌, ◌+◌, ◌*◌}
+use Rattle.std.proofs.Common.{◌+◌, ◌*◌}
 use Rattle.carol_bodies.proofs.bodies.+bodies.Given as goal
 
 abbrev pub decreases-ending : goal.decreases-ending

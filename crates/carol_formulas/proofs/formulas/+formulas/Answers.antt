@@ -1,12 +1,12 @@
-use Rattle.std.proofs.Common.{◌≡◌, ◌-◌, suc, true, false, ◌∷◌, [], sym, ◌∙◌, ap, subst, arith, ◌⊎◌, inl, inr, fold}
+use Rattle.std.proofs.Common.{◌≡◌, ◌-◌, suc, true, false, ◌∷◌, [], sym, ◌∙◌, ap, subst, arith, ◌⊎◌, inl, inr}
 use Rattle.carol_grammar.specs.Rule.Rule.{deeper}
-use Rattle.carol_grammar.specs.Reading.{next_in, read_many, giving, reads_within}
+use Rattle.carol_grammar.specs.Reading.{next_in, reads_within}
 use Rattle.carol_syntax.specs.Formulas.{formula_tree, Both, Either}
 use Rattle.carol_tokens.specs.declared.kind.Kind.TheVariants as k
 use Rattle.carol_rules.specs.Terminals.{class_of, number_of}
 use Rattle.carol_rules.specs.Rules as rules
 use Rattle.carol_rules.specs.Rules.{carol}
-use Rattle.carol_reader.specs.Reads.{Reads, read_by, read_deep}
+use Rattle.carol_reader.specs.Reads.{Reads, read_by}
 use Rattle.carol_formulas.proofs.Folding.{fold_on}
 use Rattle.carol_formulas.proofs.Literals.{literal_above, literal_plain}
 use Rattle.carol_formulas.proofs.formulas.+formulas.Goals as goal

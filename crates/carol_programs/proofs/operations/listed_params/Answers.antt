@@ -1,4 +1,4 @@
-use Rattle.std.proofs.Common.{◌≡◌, true, ◌∷◌, [], ◌++◌}
+use Rattle.std.proofs.Common.{◌≡◌, true, ◌∷◌, []}
 use Rattle.carol_grammar.specs.Reading.{next_in}
 use Rattle.carol_syntax.specs.Files.{param_tree}
 use Rattle.carol_tokens.specs.declared.kind.Kind.TheVariants as k

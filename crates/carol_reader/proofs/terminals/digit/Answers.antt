@@ -1,4 +1,4 @@
-use Rattle.std.proofs.Common.{◌≡◌, ◌∙◌, ◌∷◌, []}
+use Rattle.std.proofs.Common.{◌∙◌, ◌∷◌, []}
 use Rattle.carol_reader.proofs.Classes.{digits_within}
 use Rattle.carol_reader.proofs.terminals.digit.Goals as goal
 

@@ -1,4 +1,4 @@
-use Rattle.std.proofs.Common.{◌≡◌, ◌∙◌}
+use Rattle.std.proofs.Common.{◌∙◌}
 use Rattle.carol_rules.specs.Rules.{numbers}
 use Rattle.carol_reader.proofs.Classes.{numbers_within}
 use Rattle.carol_reader.proofs.terminals.number.Goals as goal

@@ -1,4 +1,4 @@
-use Rattle.std.proofs.Common.{◌≡◌, ◌∙◌, ◌∷◌, []}
+use Rattle.std.proofs.Common.{◌∙◌, ◌∷◌, []}
 use Rattle.carol_reader.proofs.Classes.{positive_within}
 use Rattle.carol_reader.proofs.terminals.positive.Goals as goal
 

@@ -1,4 +1,3 @@
-use Rattle.std.proofs.Common.{◌≡◌, sym}
 use Rattle.carol_syntax.specs.Files.{file_tree}
 use Rattle.carol_limits.specs.Outcome.{Read, Bad, Large}
 use Rattle.carol_tool.proofs.Stepped.{said_so, said_only, bad_only, large_only, bad_means, bad_alone, large_means, large_alone}

@@ -1,5 +1,5 @@
-use Rattle.std.proofs.Common.{◌≡◌, ap, rules}
-use Rattle.std.specs.Prelude.{Err, IsTrue}
+use Rattle.std.proofs.Common.{ap, rules}
+use Rattle.std.specs.Prelude.{Err}
 use Rattle.carol_syntax.specs.Files.{file_tree}
 use Rattle.carol_tool.specs.Step.{HasParts}
 use Rattle.carol_tool.proofs.Stepped.{not_plain, not_plain_only}
