@@ -1,16 +1,17 @@
 -- What was answered is what the text means.
 use Rattle.std.proofs.Common.{◌≡◌, ℕ, ◌+◌, List, length, take, Option, subst, sym}
-use Rattle.std.specs.Prelude.{Some, None, IfSome, Result}
+use Rattle.std.specs.Prelude.{Some, None, IfSome, IfOk, Result, Ok, Err}
 use Rattle.carol_grammar.specs.Reading.{Reading, reads_within, ended}
 use Rattle.carol_grammar.specs.Found.{Answers}
 use Rattle.carol_syntax.specs.declared.files.File.{File}
-use Rattle.carol_syntax.specs.Files.{FileTree}
+use Rattle.carol_syntax.specs.Files.{FileTree, file_tree}
+use Rattle.carol_syntax.specs.Shape.{IsFile}
 use Rattle.carol_tokens.specs.declared.lexeme.Lexeme.{Lexeme}
 use Rattle.carol_tokens.specs.declared.lexeme.Lexemes.{Lexemes}
 use Rattle.carol_tokens.specs.Cut.{StandBetween}
 use Rattle.carol_rules.specs.Rules.{carol, file, read_file}
 use Rattle.carol_limits.specs.declared.reading.Reach.{Reach}
-use Rattle.carol_limits.specs.Outcome.{Outcome, AreParts, Means, tail_of}
+use Rattle.carol_limits.specs.Outcome.{Outcome, AreParts, IsText, Means, tail_of}
 use Rattle.carol_limits.specs.Reach.{Reaches, told}
 use Rattle.carol_parse.specs.declared.error.TextError.{TextError}
 use Rattle.carol_parse.specs.Answer.{said, Says, IsMeant, IsOnlyMeant}
@@ -39,3 +40,8 @@ module _ (told_means : ToldMeans) (reading_answers : ReadingAnswers) (bytes : Li
 
   pub is_only : ((bytes : List ℕ) (one other : Outcome) → Means bytes one → Means bytes other → one ≡ other) → (tail : ℕ) (ts : List Lexeme) (result : Result File TextError) → tail ≡ tail_of parts.stop → ts ≡ take reach.count parts.list → Says result (tells bytes parts reach tail ts) → IsOnlyMeant bytes result
   is_only once tail ts result e f s = holds_of (λ o. (other : Outcome) → Means bytes other → other ≡ o) (tells bytes parts reach tail ts) (said result) s (λ other m. once bytes other (tells bytes parts reach tail ts) m (means tail ts e f))
+
+-- a tree that was read is a tree of the grammar
+pub is_shaped : ((bytes : List ℕ) (f : FileTree) → IsText bytes f → IsFile f) → (bytes : List ℕ) (result : Result File TextError) → IsMeant bytes result → IfOk result (λ file. IsFile (file_tree file))
+is_shaped shaped bytes (Ok file) m = shaped bytes (file_tree file) (m.0, m.1, m.2.text)
+is_shaped shaped bytes (Err e) m = tt

@@ -1,4 +1,4 @@
-//! Reading a whole text.
+//! Texts and trees: `tokens` cuts a text, `parse` reads it, `print` writes a tree.
 //!
 //! A text is cut into tokens, these are counted against the limits, and those up to the first limit are read by the rules
 //! of the grammar.
@@ -9,6 +9,7 @@ mod file;
 mod text;
 
 pub use carol_limits::TextLimit;
+pub use carol_print::print;
 pub use carol_tokens::{Lexed, Stop, Token, TokenKind, TokenList, tokens};
 pub use error::TextError;
 pub use text::parse;

@@ -1,18 +1,19 @@
-ghost use Rattle.std.specs.Prelude.{◌≡◌, ◌≤◌, length};
+ghost use Rattle.std.specs.Prelude.{◌≡◌, ◌≤◌, length, Err, IfOk};
 ghost use Rattle.carol_grammar.specs.Reading.{Reading, ended};
 ghost use Rattle.carol_syntax.specs.Files.{FileTree, file_tree};
+ghost use Rattle.carol_syntax.specs.Shape.{IsFile};
 ghost use Rattle.carol_tokens.specs.declared.lexeme.Lexeme.{Lexeme};
 ghost use Rattle.carol_limits.specs.Outcome.{tail_of, is_broken};
 ghost use Rattle.carol_limits.specs.Reach.{told, bad_at, unless_large};
 ghost use Rattle.carol_reader.specs.Reads.{Reads};
 ghost use Rattle.carol_parse.specs.Answer.{Says, IsMeant, IsOnlyMeant};
-ghost use Rattle.std.specs.Prelude.{Err};
 
 use crate::error::TextError;
 use crate::file::file;
 use carol_limits::{TextLimit, find_reach, one_outcome, told_means};
 use carol_reader::{Halt, Read, Reader};
 use carol_rules::reading_answers;
+use carol_shaped::text_is_shaped;
 use carol_syntax::{File, Span};
 use carol_tokens::{Lexeme, Lexemes, Stop, cut};
 use std::alloc::Global;
@@ -84,6 +85,7 @@ pub fn parse(alloc: Global, bytes: &[u8]) -> Result<File, TextError>
     requires { length bytes.now ≤ 67_108_864 }
     ensures means { IsMeant bytes.now result }
     ensures only { IsOnlyMeant bytes.now result }
+    ensures shape { IfOk result (λ file. IsFile (file_tree file)) }
 {
     let text = cut(alloc, bytes)?;
     let reach = find_reach(&text, bytes);
@@ -97,5 +99,6 @@ pub fn parse(alloc: Global, bytes: &[u8]) -> Result<File, TextError>
     reading_answers();
     told_means();
     one_outcome();
+    text_is_shaped();
     tell(&text, reach.limit, file(&reader, tokens, tail(text.stop)))
 }

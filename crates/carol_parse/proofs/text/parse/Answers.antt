@@ -1,5 +1,5 @@
 use Rattle.std.proofs.Common.{take, ap, ◌∙◌}
-use Rattle.carol_parse.proofs.Meant.{is_meant, is_only}
+use Rattle.carol_parse.proofs.Meant.{is_meant, is_only, is_shaped}
 use Rattle.carol_parse.proofs.text.parse.Goals as goal
 
 pub returns-clause-means : goal.returns-clause-means
@@ -9,3 +9,6 @@ returns-clause-means c =
 pub returns-clause-only : goal.returns-clause-only
 returns-clause-only c =
     is_only c.told_means.ensures c.reading_answers.ensures c.args.bytes.now c.in_ok-text.text c.find_reach-reach.result c.in_ok-text.ensures.cut c.in_ok-text.ensures.ordered c.find_reach-reach.ensures.reaches c.one_outcome.ensures c.tail.result c.split_at.result.0.now c.tell.result c.tail.ensures (c.split_at.ensures.front ∙ ap (take c.find_reach-reach.result.count) c.as_slice.ensures) (c.tell.ensures _ c.file.ensures)
+
+pub returns-clause-shape : goal.returns-clause-shape
+returns-clause-shape c = is_shaped c.text_is_shaped.ensures c.args.bytes.now c.tell.result (returns-clause-means c)

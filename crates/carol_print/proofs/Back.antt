@@ -1,0 +1,29 @@
+-- A canonical text is read back as the tree that it was made of.
+use Rattle.std.proofs.Common.{◌≡◌, ℕ, List, refl, sym, ◌∙◌, subst, ap}
+use Rattle.carol_syntax.specs.Files.{FileTree}
+use Rattle.carol_syntax.specs.Unplaced.{SameButPlaces}
+use Rattle.carol_syntax.specs.Shape.{IsFile}
+use Rattle.carol_tokens.specs.declared.lexeme.Lexemes.{Lexemes}
+use Rattle.carol_tokens.specs.declared.lexeme.Stop.TheVariants as stop_of
+use Rattle.carol_tokens.specs.declared.place.Place.{Place}
+use Rattle.carol_pieces.specs.Pieces.{Piece, text_of, AreLaidOut, CutAgain}
+use Rattle.carol_canon.specs.Canonical.{canonical}
+use Rattle.carol_limits.specs.Outcome.{Outcome, Read, Bad, Large, IsText, IsBadAt, Means}
+use Rattle.carol_spelled.specs.Spelled.{without_tail, CanonicalIsRead}
+use Rattle.carol_print.specs.ReadBack.{IsTextOf, IsBack, IsReadBack}
+
+module _ (laid : (f : FileTree) → IsFile f → AreLaidOut (canonical f)) (again : (ps : List Piece) → AreLaidOut ps → CutAgain ps) (read : CanonicalIsRead) where
+  pub text_is_file : (f : FileTree) → IsFile f → IsTextOf (text_of (canonical f)) f
+  text_is_file f h =
+      let c = again (canonical f) (laid f h) in
+      let g = read f h (text_of (canonical f)) 0 c.0 c.3 in
+      (g.0, (record { list = c.0; stop = stop_of.End; end = c.1 }, c.2, record { whole = refl; file = g.1 }), g.2)
+
+  module _ (one_text : (bytes : List ℕ) (f g : FileTree) → IsText bytes f → IsText bytes g → f ≡ g) (none_bad : (bytes : List ℕ) (f : FileTree) (at : Place) → IsText bytes f → IsBadAt bytes at → ⊥) where
+    back_from : (bytes : List ℕ) (f : FileTree) → IsTextOf bytes f → (o : Outcome) → Means bytes o → IsBack f o
+    back_from bytes f t (Read g) m = subst (λ h. SameButPlaces h (without_tail f)) (one_text bytes t.0 g t.1 (m.0, m.1, m.2.text)) t.2
+    back_from bytes f t (Bad line column) m = none_bad bytes t.0 m.2.at t.1 (m.0, m.1, m.2.bad)
+    back_from bytes f t (Large limit) m = tt
+
+    pub text_is_read_back : (f : FileTree) → IsFile f → IsReadBack (text_of (canonical f)) f
+    text_is_read_back f h = back_from (text_of (canonical f)) f (text_is_file f h)

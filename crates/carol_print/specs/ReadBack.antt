@@ -1,0 +1,20 @@
+-- That a printed text is read back.
+use Rattle.std.specs.Prelude.{List, ℕ}
+use Rattle.carol_syntax.specs.Files.{FileTree}
+use Rattle.carol_syntax.specs.Unplaced.{SameButPlaces}
+use Rattle.carol_limits.specs.Outcome.{Outcome, Read, Bad, Large, IsText, Means}
+use Rattle.carol_spelled.specs.Spelled.{without_tail}
+
+-- the bytes are a file with this tree, but for places and a transcript
+abbrev pub IsTextOf : List ℕ → FileTree → Type 0
+IsTextOf bytes f = (g : FileTree) × IsText bytes g × SameButPlaces g (without_tail f)
+
+-- reading comes to this tree, but for places and a transcript, or to a limit
+abbrev pub IsBack : FileTree → Outcome → Type 0
+IsBack f (Read g) = SameButPlaces g (without_tail f)
+IsBack f (Bad line column) = ⊥
+IsBack f (Large limit) = Unit {0}
+
+-- whatever the bytes are answered
+abbrev pub IsReadBack : List ℕ → FileTree → Type 0
+IsReadBack bytes f = (outcome : Outcome) → Means bytes outcome → IsBack f outcome
