@@ -6,6 +6,8 @@
 
 mod error;
 mod file;
+#[cfg(test)]
+mod tests;
 mod text;
 
 pub use carol_limits::TextLimit;

@@ -1,12 +1,12 @@
 -- The text of a formula, part by part.
-use Rattle.std.proofs.Common.{◌≡◌, ℕ, Bool, List, [], ◌∷◌, ◌++◌, refl, append_assoc}
+use Rattle.std.proofs.Common.{◌≡◌, ℕ, Bool, List, [], ◌∷◌, ◌++◌, append_assoc}
 use Rattle.std.specs.Prelude.{OnOk, Result, Ok, Err, codes, ◌||◌}
 use Rattle.carol_syntax.specs.declared.formulas.TermDecl.{TermDecl}
 use Rattle.carol_syntax.specs.declared.formulas.Sign.{Sign}
 use Rattle.carol_syntax.specs.declared.formulas.Sign.TheVariants as way
 use Rattle.carol_syntax.specs.Formulas.{FormulaTree, Denial, Both, Either, Comparison}
-use Rattle.carol_pieces.specs.Pieces.{Piece, Space, text_of}
-use Rattle.carol_canon.specs.Canonical.{is_either, is_both, formula, enclosed, sign, term}
+use Rattle.carol_pieces.specs.Pieces.{Space, text_of}
+use Rattle.carol_canon.specs.Canonical.{is_either, is_both, formula, sign, term}
 use Rattle.carol_print.specs.Enclosing.{opened, closed}
 use Rattle.carol_print.proofs.Texts.{text_both, enclosed_text}
 

@@ -73,7 +73,7 @@ impl Printed for Statement {
     }
 }
 
-// Appends the lines between the braces of a body.
+/// Appends the lines between the braces of a body.
 pub fn push_inside(out: &mut Vec<u8>, body: &Body) -> Result<(), AllocError>
     ensures { OnOk result (out.new.items ≡ out.old.items ++ text_of (canon.inside (body_tree body.now))) }
 {

@@ -57,7 +57,7 @@ fn push_sign(out: &mut Vec<u8>, sign: Sign) -> Result<(), AllocError>
     }
 }
 
-// Appends a formula, in parentheses only the parts that need them.
+/// Appends a formula, in parentheses only the parts that need them.
 pub fn push_formula(out: &mut Vec<u8>, formula: &FormulaDecl) -> Result<(), AllocError>
     ensures { OnOk result (out.new.items ≡ out.old.items ++ text_of (canon.formula (formula_tree formula.now))) }
 {

@@ -6,11 +6,11 @@ use carol_syntax::Ident;
 use carol_text::push_integer;
 use std::alloc::AllocError;
 
-// What has a canonical text.
+/// What has a canonical text.
 pub trait Printed {
     ghost pieces: { Self → List Piece };
 
-    // Appends the text.
+    /// Appends the text.
     fn push_to(&self, out: &mut Vec<u8>) -> Result<(), AllocError>
         ensures { OnOk result (out.new.items ≡ out.old.items ++ text_of (pieces self.now)) };
 }
@@ -31,14 +31,14 @@ impl Printed for i64 {
     }
 }
 
-// Appends a fixed text.
+/// Appends a fixed text.
 pub fn push_text(out: &mut Vec<u8>, text: &str) -> Result<(), AllocError>
     ensures { OnOk result (out.new.items ≡ out.old.items ++ text.now) }
 {
     out.extend_from_slice(text.as_bytes())
 }
 
-// Appends the texts with commas between them.
+/// Appends the texts with commas between them.
 pub fn push_with_commas<T: Printed>(out: &mut Vec<u8>, items: &[T]) -> Result<(), AllocError>
     ensures { OnOk result (out.new.items ≡ out.old.items ++ text_of (with_commas (map T.pieces items.now))) }
 {
@@ -53,7 +53,7 @@ pub fn push_with_commas<T: Printed>(out: &mut Vec<u8>, items: &[T]) -> Result<()
     Ok(())
 }
 
-// Appends the texts one behind the other.
+/// Appends the texts one behind the other.
 pub fn push_all<T: Printed>(out: &mut Vec<u8>, items: &[T]) -> Result<(), AllocError>
     ensures { OnOk result (out.new.items ≡ out.old.items ++ text_of (concat (map T.pieces items.now))) }
 {

@@ -49,7 +49,7 @@ impl Printed for OpDecl {
     }
 }
 
-// Appends the program part of a file.
+/// Appends the program part of a file.
 pub fn push_program(out: &mut Vec<u8>, program: &ProgramDecl) -> Result<(), AllocError>
     ensures { OnOk result (out.new.items ≡ out.old.items ++ text_of (canon.program (program_tree program.now))) }
 {

@@ -54,7 +54,7 @@ fn push_setting(out: &mut Vec<u8>, word: &str, number: u64) -> Result<(), AllocE
     push_text(out, ";\n")
 }
 
-// Appends the scene part of a file.
+/// Appends the scene part of a file.
 pub fn push_scene(out: &mut Vec<u8>, scene: &SceneDecl) -> Result<(), AllocError>
     ensures { OnOk result (out.new.items ≡ out.old.items ++ text_of (canon.scene scene.now)) }
 {
@@ -92,7 +92,7 @@ impl Printed for ScriptLine {
     }
 }
 
-// Appends the script part of a file.
+/// Appends the script part of a file.
 pub fn push_script(out: &mut Vec<u8>, lines: &[ScriptLine]) -> Result<(), AllocError>
     ensures { OnOk result (out.new.items ≡ out.old.items ++ text_of (canon.script lines.now)) }
 {

@@ -7,7 +7,7 @@ use carol_syntax::{Ident, ProductDecl, TermDecl, ValueDecl, ValueKind};
 use carol_text::push_integer;
 use std::alloc::AllocError;
 
-// Appends the names with dots between them.
+/// Appends the names with dots between them.
 pub fn push_path(out: &mut Vec<u8>, parts: &[Ident]) -> Result<(), AllocError>
     ensures { OnOk result (out.new.items ≡ out.old.items ++ text_of (canon.path parts.now)) }
 {
@@ -111,7 +111,7 @@ fn push_products(out: &mut Vec<u8>, products: &[ProductDecl]) -> Result<(), Allo
     Ok(())
 }
 
-// Appends a term.
+/// Appends a term.
 pub fn push_term(out: &mut Vec<u8>, term: &TermDecl) -> Result<(), AllocError>
     ensures { OnOk result (out.new.items ≡ out.old.items ++ text_of (canon.term term.now)) }
 {

@@ -34,7 +34,7 @@ fn push_script_part(out: &mut Vec<u8>, part: &Option<ScriptLineList>) -> Result<
     }
 }
 
-// Appends the parts of a file.
+/// Appends the parts of a file.
 pub fn push_file(out: &mut Vec<u8>, file: &File) -> Result<(), AllocError>
     ensures { OnOk result (out.new.items ≡ out.old.items ++ text_of (canonical (file_tree file.now))) }
 {
