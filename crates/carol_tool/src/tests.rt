@@ -1,5 +1,6 @@
 use super::{Status, carol};
 use carol_outer::{MemorySink, MemorySource, OpenGate};
+use std::alloc::Global;
 use std::sync::Wait;
 use std::test::Fail;
 use std::thread::Threads;
@@ -84,6 +85,34 @@ global 3 5
 end 2
 ";
 
+// The same input in one line, with other names and parentheses that aren't needed.
+const ONE_LINE: &[u8] =
+    b"program counter a = 0 ; counter b = 5 ; invariant true ; op inc ( n : - 1000000000 <= n and n <= 1000000000 ) gives true { issue a += n ; return n ; } op addb ( n : ( - 1000000000 <= n ) and ( n <= 1000000000 ) ) gives ( true ) { issue b += n ; return n ; } end scene replicas 2 ; tries 1 ; workers 2 ; gossipers 1 ; session at 0 { inc ( 3 ) ; } session at 1 { addb ( - 2 ) ; inc ( 4 ) times 1 ; } end script go 0 ; go 1 ; gossip 0 1 ; go 0 ; go 1 ; go 1 ; go 1 ; gossip 1 0 ; gossip 1 0 ; end";
+
+const THRICE: &[u8] = b"session at 1 {
+adda(1) times 3;
+}
+end
+script
+go 0;
+go 0;
+end
+";
+
+const THRICE_REPORT: &[u8] = b"transcript
+issue 0 0 0:1
+return 0 1
+results
+result 0 0 value 1
+result 0 1 open
+result 0 2 open
+stores
+store 0 0 5
+store 1 1 5
+global 1 5
+end 2
+";
+
 // What `carol` answered, and what its sink took.
 #[derive(Drop)]
 struct Answer {
@@ -146,7 +175,7 @@ fn steps(rt: HostRuntime) -> Result<(), Fail> {
             Status::Script,
             b"script 3 finished\n",
         ),
-        (b"", b"", Status::Text, b"plain form only\n"),
+        (b"", b"", Status::Text, b"text 19 1\n"),
     ];
     for (sessions, script, status, output) in &rows {
         let parts = [PROGRAM, SCENE, *sessions, *script];
@@ -154,6 +183,88 @@ fn steps(rt: HostRuntime) -> Result<(), Fail> {
         assert_eq!(rt; answer.status, *status);
         assert_eq!(rt; answer.sink.taken(), *output);
     }
+    Ok(())
+}
+
+// The bytes with a comment behind each word.
+fn with_comments(alloc: Global, bytes: &[u8]) -> Result<Vec<u8>, Fail> {
+    let mut noted = Vec::new(alloc);
+    for byte in bytes {
+        match *byte {
+            b' ' => noted.extend_from_slice(b" # end\n")?,
+            other => noted.push(other)?,
+        }
+    }
+    Ok(noted)
+}
+
+#[test]
+fn reads_any_layout(rt: HostRuntime) -> Result<(), Fail> {
+    let noted = with_comments(rt.alloc(), ONE_LINE)?;
+    let rows: [([&[u8]; 3], &[u8]); 3] = [
+        ([ONE_LINE, b"", b""], WHOLE_REPORT),
+        ([noted.as_slice(), b"# the end", b""], WHOLE_REPORT),
+        ([PROGRAM, SCENE, THRICE], THRICE_REPORT),
+    ];
+    for (parts, output) in &rows {
+        let answer = call(&rt, b"step", parts, &[], 4096, &[])?;
+        assert_eq!(rt; answer.status, Status::Ok);
+        assert_eq!(rt; answer.sink.taken(), *output);
+    }
+    Ok(())
+}
+
+const COUNTER: &[u8] = b"program\ncounter c = 0;\ninvariant true;\nend\n";
+
+#[test]
+fn refuses_texts(rt: HostRuntime) -> Result<(), Fail> {
+    let rows: [([&[u8]; 3], &[u8]); 10] = [
+        ([b"", b"", b""], b"text 1 1\n"),
+        ([b"program\n", b"invariant true;\n", b""], b"text 3 1\n"),
+        ([b"program\ncounter c = ", b"05", b";\n"], b"text 2 13\n"),
+        ([b"program\ncounter c = ", b"+5", b";\n"], b"text 2 13\n"),
+        ([COUNTER, b"x\n", b""], b"text 5 1\n"),
+        ([COUNTER, b"", b""], b"parts step\n"),
+        ([COUNTER, SCENE, b"end\n"], b"parts step\n"),
+        ([COUNTER, SCENE, b"end transcript\n"], b"parts step\n"),
+        (
+            [
+                COUNTER,
+                b"scene replicas 9; tries 1; workers 1; gossipers 0; ",
+                b"end script end",
+            ],
+            b"plain form only\n",
+        ),
+        (
+            [
+                b"program invariant not false; end ",
+                SCENE,
+                b"end script end",
+            ],
+            b"plain form only\n",
+        ),
+    ];
+    for (parts, output) in &rows {
+        let answer = call(&rt, b"step", parts, &[], 4096, &[])?;
+        assert_eq!(rt; answer.status, Status::Text);
+        assert_eq!(rt; answer.sink.taken(), *output);
+    }
+    Ok(())
+}
+
+#[test]
+fn tells_a_limit(rt: HostRuntime) -> Result<(), Fail> {
+    let mut nots = Vec::new(rt.alloc());
+    for _ in 0..256 {
+        nots.extend_from_slice(b"not ")?;
+    }
+    let parts: [&[u8]; 3] = [b"program invariant ", nots.as_slice(), b"true;"];
+    let answer = call(&rt, b"step", &parts, &[], 4096, &[])?;
+    assert_eq!(rt; answer.status, Status::Text);
+    assert_eq!(rt;
+        answer.sink.taken(),
+        b"too large formula nodes\n".as_slice()
+    );
     Ok(())
 }
 
