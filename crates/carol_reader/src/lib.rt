@@ -7,6 +7,8 @@
 mod lists;
 mod reader;
 mod terminals;
+#[cfg(test)]
+mod tests;
 
 pub use lists::{AfterComma, Member, OneInt, OneName, ints, listed, many, names};
 pub use reader::{Halt, Read, Reader};
