@@ -43,7 +43,7 @@ fn front(alloc: Global, bytes: &[u8]) -> Result<(&'static str, u32), AllocError>
 }
 
 #[test]
-fn stages(rt: HostRuntime) -> Result<(), AllocError> {
+fn scenes(rt: HostRuntime) -> Result<(), AllocError> {
     let table = [
         ("program", "none", 1),
         ("scene tries 1;", "stuck", 7),
@@ -68,6 +68,17 @@ fn stages(rt: HostRuntime) -> Result<(), AllocError> {
             "stuck",
             28,
         ),
+    ];
+    for (text, what, at) in table {
+        let found = front(rt.alloc(), text.as_bytes())?;
+        assert!(rt; found.0 == what && found.1 == at, "at {text}");
+    }
+    Ok(())
+}
+
+#[test]
+fn sequels(rt: HostRuntime) -> Result<(), AllocError> {
+    let table = [
         (
             "scene replicas 2; tries 1; workers 1; gossipers 0;\nend script go 0; gossip 0 1; cut 0 1; join 0 1; end x",
             "script",

@@ -143,7 +143,7 @@ fn call<R: Threads + Wait + Sync + AllocGlobal>(
 
 #[test]
 fn steps(rt: HostRuntime) -> Result<(), Fail> {
-    let rows: [(&[u8], &[u8], Status, &[u8]); 7] = [
+    let rows: [(&[u8], &[u8], Status, &[u8]); 6] = [
         (SESSIONS, WHOLE, Status::Ok, WHOLE_REPORT),
         (
             SESSIONS,
@@ -175,7 +175,6 @@ fn steps(rt: HostRuntime) -> Result<(), Fail> {
             Status::Script,
             b"script 3 finished\n",
         ),
-        (b"", b"", Status::Text, b"text 19 1\n"),
     ];
     for (sessions, script, status, output) in &rows {
         let parts = [PROGRAM, SCENE, *sessions, *script];
@@ -218,8 +217,9 @@ const COUNTER: &[u8] = b"program\ncounter c = 0;\ninvariant true;\nend\n";
 
 #[test]
 fn refuses_texts(rt: HostRuntime) -> Result<(), Fail> {
-    let rows: [([&[u8]; 3], &[u8]); 10] = [
+    let rows: [([&[u8]; 3], &[u8]); 11] = [
         ([b"", b"", b""], b"text 1 1\n"),
+        ([PROGRAM, SCENE, b""], b"text 19 1\n"),
         ([b"program\n", b"invariant true;\n", b""], b"text 3 1\n"),
         ([b"program\ncounter c = ", b"05", b";\n"], b"text 2 13\n"),
         ([b"program\ncounter c = ", b"+5", b";\n"], b"text 2 13\n"),
