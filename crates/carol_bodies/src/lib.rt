@@ -3,5 +3,7 @@
 
 mod bodies;
 mod statements;
+#[cfg(test)]
+mod tests;
 
 pub use bodies::body;

@@ -3,6 +3,8 @@
 
 mod formulas;
 mod terms;
+#[cfg(test)]
+mod tests;
 mod values;
 
 pub use formulas::formula;

@@ -4,5 +4,7 @@
 mod guards;
 mod operations;
 mod programs;
+#[cfg(test)]
+mod tests;
 
 pub use programs::program;
