@@ -78,6 +78,7 @@ fn bodies(rt: HostRuntime) -> Result<(), AllocError> {
     Ok(())
 }
 
+// How many names the path of a change has, and what it does.
 fn told_change(atom: &AtomDecl) -> (usize, &'static str) {
     let change = match &atom.change {
         Change::Add(_) => "+=",
@@ -88,38 +89,39 @@ fn told_change(atom: &AtomDecl) -> (usize, &'static str) {
     (atom.path.parts.len(), change)
 }
 
-// The first and the last change of the issue that a body begins with: how many names its path has, and what it is.
-fn changes(body: &Option<Body>) -> Option<[(usize, &'static str); 2]> {
+// The first and the last change of the issue that a body begins with, where it has several.
+fn changes(body: &Option<Body>) -> [(usize, &'static str); 2] {
     let Some(body) = body else {
-        return None;
+        return [(0, "none"); 2];
     };
     let [Statement::Issue(atoms), ..] = body.plain.as_slice() else {
-        return None;
+        return [(0, "none"); 2];
     };
     match atoms.as_slice() {
-        [first, .., last] => Some([told_change(first), told_change(last)]),
-        _ => None,
+        [first, .., last] => [told_change(first), told_change(last)],
+        _ => [(0, "none"); 2],
     }
 }
 
 #[test]
 fn issues(rt: HostRuntime) -> Result<(), AllocError> {
+    let none = [(0, "none"); 2];
     let table = [
         (
             "{ issue a += 1, b -= 2*n; return 1; }",
-            Some([(1, "+="), (1, "-=")]),
+            [(1, "+="), (1, "-=")],
             0,
         ),
         (
             "{ issue p raise n + 1, x += 1, s.m set; return 1; }",
-            Some([(1, "raise"), (2, "set")]),
+            [(1, "raise"), (2, "set")],
             0,
         ),
-        ("{ issue a += 1, ; return 1; }", None, 17),
-        ("{ issue ; return 1; }", None, 9),
-        ("{ issue a; return 1; }", None, 10),
-        ("{ issue a set 1; return 1; }", None, 15),
-        ("{ issue a = 1; return 1; }", None, 11),
+        ("{ issue a += 1, ; return 1; }", none, 17),
+        ("{ issue ; return 1; }", none, 9),
+        ("{ issue a; return 1; }", none, 10),
+        ("{ issue a set 1; return 1; }", none, 15),
+        ("{ issue a = 1; return 1; }", none, 11),
     ];
     for (text, wanted, at) in table {
         let (found, stop) = front(rt.alloc(), text)?;
