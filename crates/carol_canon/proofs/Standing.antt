@@ -31,10 +31,6 @@ Stands ps = (bytes : List ℕ) → AreLaidBefore bytes ps
 abbrev pub Fits : Pieces → Type 0
 Fits ps = (bytes : List ℕ) → are_soft bytes ≡ true → AreLaidBefore bytes ps
 
--- bytes that begin with no `=`
-abbrev pub not_equals : List ℕ → Bool
-not_equals bytes = ends_before k.Minus bytes
-
 abbrev pub AllFit : {A : Type 0} → (A → Type 0) → (A → Pieces) → Type 0
 AllFit {A} P f = (a : A) → P a → Fits (f a)
 

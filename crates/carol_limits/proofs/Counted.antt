@@ -29,16 +29,6 @@ none_over t before w FormulaNodes = w.nodes_within
 none_over t before w BodyDepth = w.depth_within
 none_over t before w ScriptLines = w.lines_within
 
-pub counted_none : (tokens : List Lexeme) (counts : Counts) → counts ≡ counts_of [] → AreCounted tokens 0 counts
-counted_none tokens counts e = record {
-  before = [];
-  split = refl;
-  number = refl;
-  same = e;
-  within = subst IsWithin (sym e) (record { nodes_within = omega arith; depth_within = omega arith; lines_within = omega arith });
-  none = tt;
-}
-
 pub counted_more : (tokens : List Lexeme) (index : ℕ) (counts after : Counts) (d : Lexeme) → AreCounted tokens index counts → index < length tokens → after ≡ counts_with counts (get_or tokens index d).kind → IsWithin after → AreCounted tokens (index + 1) after
 counted_more tokens index counts after d a inner e w =
     let t = get_or tokens index d in

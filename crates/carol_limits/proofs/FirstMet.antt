@@ -15,10 +15,6 @@ use Rattle.carol_limits.proofs.Splits.{Behind, Same, compare_splits}
 
 -- of tokens one behind the other
 
-stand_wider : (low from : ℕ) (xs : List Lexeme) (to : ℕ) → low ≤ from → StandBetween from xs to → StandBetween low xs to
-stand_wider low from [] to h s = omega arith
-stand_wider low from (x ∷ xs) to h s = (omega arith, s.1, s.2)
-
 pub stand_within : (from : ℕ) (xs : List Lexeme) (to : ℕ) → StandBetween from xs to → from ≤ to
 stand_within from [] to s = s
 stand_within from (x ∷ xs) to s = let h : x.to ≤ to = stand_within x.to xs to s.2 in omega (arith, s.0, s.1)

@@ -96,37 +96,6 @@ fn operations(rt: HostRuntime) -> Result<(), AllocError> {
             "put n m",
             0,
         ),
-        (
-            "program invariant true;\nop put(n: true,) gives true { return n; } end",
-            "",
-            16,
-        ),
-        (
-            "program invariant true;\nop put(n) gives true { return n; } end",
-            "",
-            9,
-        ),
-        (
-            "program invariant true;\nop put(n: true m: true) gives true { return n; } end",
-            "",
-            16,
-        ),
-        (
-            "program invariant true;\nop put(n: true) { return n; } end",
-            "",
-            17,
-        ),
-        ("program invariant true;\nop put() gives true; end", "", 20),
-        (
-            "program invariant true;\nop put gives true { return 1; } end",
-            "",
-            8,
-        ),
-        (
-            "program invariant true;\nop (n: true) gives true { return 1; } end",
-            "",
-            4,
-        ),
     ];
     for (text, wanted, at) in table {
         let (found, stop) = front(rt.alloc(), text)?;
@@ -135,6 +104,42 @@ fn operations(rt: HostRuntime) -> Result<(), AllocError> {
             spelled.as_slice() == wanted.as_bytes() && stop == at,
             "at {text}"
         );
+    }
+    Ok(())
+}
+
+#[test]
+fn operations_that_stop(rt: HostRuntime) -> Result<(), AllocError> {
+    let table = [
+        (
+            "program invariant true;\nop put(n: true,) gives true { return n; } end",
+            16,
+        ),
+        (
+            "program invariant true;\nop put(n) gives true { return n; } end",
+            9,
+        ),
+        (
+            "program invariant true;\nop put(n: true m: true) gives true { return n; } end",
+            16,
+        ),
+        (
+            "program invariant true;\nop put(n: true) { return n; } end",
+            17,
+        ),
+        ("program invariant true;\nop put() gives true; end", 20),
+        (
+            "program invariant true;\nop put gives true { return 1; } end",
+            8,
+        ),
+        (
+            "program invariant true;\nop (n: true) gives true { return 1; } end",
+            4,
+        ),
+    ];
+    for (text, at) in table {
+        let (found, stop) = front(rt.alloc(), text)?;
+        assert!(rt; found.is_none() && stop == at, "at {text}");
     }
     Ok(())
 }
