@@ -3,7 +3,7 @@ use Rattle.std.proofs.Common.{ℕ, zero, suc, ◌≡◌, ◌*◌, ◌/◌, ◌%�
 use Rattle.std.specs.Prelude.{ℤ, pos, negsuc, ◌*ℤ◌, neg_ℤ, ◌≤ℤ◌}
 use Rattle.std.proofs.lemmas.Int.{ints}
 use Rattle.std.proofs.Math.Nat.{le-div_iff_mul-le, div-lt_iff_lt-mul}
-use Rattle.carol_leaf.specs.PlainRow.{floor_of, Divides}
+use Rattle.carol_cert_rows.specs.PlainRow.{floor_of, Divides}
 
 -- a multiple of d, less 1, divided by d
 below_multiple : (d q a : ℕ) → 0 < d → suc a ≡ d * suc q → a / d ≡ q

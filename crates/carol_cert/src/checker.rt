@@ -2,13 +2,13 @@ ghost use Rattle.std.specs.Prelude.{◌≡◌, ◌↔◌, ◌<◌, [], ◌∷◌
 ghost use Rattle.std.specs.Option.{option_map};
 ghost use Rattle.carol_formula.specs.Claim.{Claim};
 ghost use Rattle.carol_formula.specs.Tree.{claim_of};
-ghost use Rattle.carol_leaf.specs.Place.{claims_at, claim_of_item, IsItem, IsPlace};
+ghost use Rattle.carol_cert_rows.specs.Place.{claims_at, claim_of_item, IsItem, IsPlace};
 ghost use Rattle.carol_cert.specs.Proof.{Part, Split, Branch, proof_of};
 ghost use Rattle.carol_cert.specs.Refutes.{parts_at, sides_at, Refutes, IsNeverTrue, AreNeverTrue};
 
 use crate::tree::Refutation;
+use carol_cert_rows::{Item, Place, leaf_closes};
 use carol_formula::{Formula, Variable};
-use carol_leaf::{Item, Place, leaf_closes};
 use std::slice;
 
 /// Each `k` of a branch, and the number after it, is below this in absolute value.

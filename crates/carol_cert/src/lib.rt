@@ -4,7 +4,7 @@
 mod checker;
 mod tree;
 
-pub use carol_leaf::{RowStep, StepList};
+pub use carol_cert_rows::{RowStep, StepList};
 pub use checker::{check, check_list};
 pub use tree::Refutation;
 

@@ -1,5 +1,5 @@
+use carol_cert_rows::StepList;
 use carol_formula::Variable;
-use carol_leaf::StepList;
 use sqlite_items::Boxed;
 
 /// A tree that shows that the formulas of a list are never all true at once. The list grows and changes on

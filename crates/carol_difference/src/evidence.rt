@@ -2,8 +2,8 @@ ghost use Rattle.std.specs.Prelude.{◌≡◌, ◌+◌, ◌^◌, ◌≤◌, leng
 ghost use Rattle.std.specs.List.{All};
 ghost use Rattle.carol_difference.specs.Evidence.{AreApart, GivesNumbers, sum_steps};
 
+use carol_cert_rows::{RowStep, StepList};
 use carol_formula::{Valuation, Variable};
-use carol_leaf::{RowStep, StepList};
 use std::alloc::{AllocError, Global};
 
 /// The numbers of the variables: the potentials of their nodes, less that of the node for zero.

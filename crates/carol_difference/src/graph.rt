@@ -4,8 +4,8 @@ ghost use Rattle.carol_difference.specs.Graph.{Grows, IsGraph, IsTable, variable
 ghost use Rattle.carol_difference.specs.Rows.{IsDifference, IsNarrow};
 
 use crate::sides::sides_of;
+use carol_difference_paths::Edge;
 use carol_formula::Row;
-use carol_paths::Edge;
 use std::alloc::{AllocError, Global};
 use std::collections::BTreeMap;
 

@@ -8,9 +8,9 @@ ghost use Rattle.carol_formula.specs.Linear.{AllBelow};
 ghost use Rattle.carol_difference.specs.Decision.{IsDecision};
 ghost use Rattle.carol_difference.specs.Rows.{IsDifference, IsFirstOther, IsNarrow, row_limit};
 
+use carol_cert_rows::StepList;
+use carol_difference_paths::{Paths, potentials_or_cycle};
 use carol_formula::{Row, Valuation, Variable};
-use carol_leaf::StepList;
-use carol_paths::{Paths, potentials_or_cycle};
 use std::alloc::{AllocError, Global};
 
 mod evidence;

@@ -1,1 +1,12 @@
 pub mod Meant
+pub mod Holds
+pub mod Names
+pub mod Spelled
+pub mod Terminals
+pub mod Cells
+pub mod Terms
+pub mod Formulas
+pub mod Bodies
+pub mod Programs
+pub mod Scenes
+pub mod Files

@@ -6,13 +6,13 @@ use Rattle.carol_grammar.specs.Found.{Answers}
 use Rattle.carol_syntax.specs.declared.files.File.{File}
 use Rattle.carol_syntax.specs.Files.{FileTree, file_tree}
 use Rattle.carol_syntax.specs.Shape.{IsFile}
-use Rattle.carol_tokens.specs.declared.lexeme.Lexeme.{Lexeme}
-use Rattle.carol_tokens.specs.declared.lexeme.Lexemes.{Lexemes}
-use Rattle.carol_tokens.specs.Cut.{StandBetween}
-use Rattle.carol_rules.specs.Rules.{carol, file, read_file}
-use Rattle.carol_limits.specs.declared.reading.Reach.{Reach}
-use Rattle.carol_limits.specs.Outcome.{Outcome, AreParts, IsText, Means, tail_of}
-use Rattle.carol_limits.specs.Reach.{Reaches, told}
+use Rattle.carol_syntax_tokens.specs.declared.lexeme.Lexeme.{Lexeme}
+use Rattle.carol_syntax_tokens.specs.declared.lexeme.Lexemes.{Lexemes}
+use Rattle.carol_syntax_tokens.specs.Cut.{StandBetween}
+use Rattle.carol_syntax_rules.specs.Rules.{carol, file, read_file}
+use Rattle.carol_syntax_meaning.specs.declared.reading.Reach.{Reach}
+use Rattle.carol_syntax_meaning.specs.Outcome.{Outcome, AreParts, IsText, Means, tail_of}
+use Rattle.carol_syntax_meaning.specs.Reach.{Reaches, told}
 use Rattle.carol_parse.specs.declared.error.TextError.{TextError}
 use Rattle.carol_parse.specs.Answer.{said, Says, IsMeant, IsOnlyMeant}
 

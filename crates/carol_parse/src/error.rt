@@ -1,6 +1,6 @@
 ghost use Rattle.std.specs.Prelude.{◌≡◌};
 
-use carol_limits::TextLimit;
+use carol_syntax_meaning::TextLimit;
 use std::alloc::AllocError;
 use thiserror::Error;
 

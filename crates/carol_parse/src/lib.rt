@@ -6,12 +6,13 @@
 
 mod error;
 mod file;
+mod shape;
 #[cfg(test)]
 mod tests;
 mod text;
 
-pub use carol_limits::TextLimit;
 pub use carol_print::print;
-pub use carol_tokens::{Lexed, Stop, Token, TokenKind, TokenList, tokens};
+pub use carol_syntax_meaning::TextLimit;
+pub use carol_syntax_tokens::{Lexed, Stop, Token, TokenKind, TokenList, tokens};
 pub use error::TextError;
 pub use text::parse;

@@ -2,20 +2,20 @@ ghost use Rattle.std.specs.Prelude.{◌≡◌, ◌≤◌, length, Err, IfOk};
 ghost use Rattle.carol_grammar.specs.Reading.{Reading, ended};
 ghost use Rattle.carol_syntax.specs.Files.{FileTree, file_tree};
 ghost use Rattle.carol_syntax.specs.Shape.{IsFile};
-ghost use Rattle.carol_tokens.specs.declared.lexeme.Lexeme.{Lexeme};
-ghost use Rattle.carol_limits.specs.Outcome.{tail_of, is_broken};
-ghost use Rattle.carol_limits.specs.Reach.{told, bad_at, unless_large};
-ghost use Rattle.carol_reader.specs.Reads.{Reads};
+ghost use Rattle.carol_syntax_tokens.specs.declared.lexeme.Lexeme.{Lexeme};
+ghost use Rattle.carol_syntax_meaning.specs.Outcome.{tail_of, is_broken};
+ghost use Rattle.carol_syntax_meaning.specs.Reach.{told, bad_at, unless_large};
+ghost use Rattle.carol_parse_reader.specs.Reads.{Reads};
 ghost use Rattle.carol_parse.specs.Answer.{Says, IsMeant, IsOnlyMeant};
 
 use crate::error::TextError;
 use crate::file::file;
-use carol_limits::{TextLimit, find_reach, one_outcome, told_means};
-use carol_reader::{Halt, Read, Reader};
-use carol_rules::reading_answers;
-use carol_shaped::text_is_shaped;
+use crate::shape::text_is_shaped;
+use carol_parse_reader::{Halt, Read, Reader};
 use carol_syntax::{File, Span};
-use carol_tokens::{Lexeme, Lexemes, Stop, cut};
+use carol_syntax_meaning::{TextLimit, find_reach, one_outcome, told_means};
+use carol_syntax_rules::reading_answers;
+use carol_syntax_tokens::{Lexeme, Lexemes, Stop, cut};
 use std::alloc::Global;
 
 fn bad(at: Span) -> TextError

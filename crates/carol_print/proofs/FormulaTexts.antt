@@ -5,8 +5,8 @@ use Rattle.carol_syntax.specs.declared.formulas.TermDecl.{TermDecl}
 use Rattle.carol_syntax.specs.declared.formulas.Sign.{Sign}
 use Rattle.carol_syntax.specs.declared.formulas.Sign.TheVariants as way
 use Rattle.carol_syntax.specs.Formulas.{FormulaTree, Denial, Both, Either, Comparison}
-use Rattle.carol_pieces.specs.Pieces.{Space, text_of}
-use Rattle.carol_canon.specs.Canonical.{is_either, is_both, formula, sign, term}
+use Rattle.carol_print_canon.specs.Pieces.{Space, text_of}
+use Rattle.carol_print_canon.specs.Canonical.{is_either, is_both, formula, sign, term}
 use Rattle.carol_print.specs.Enclosing.{opened, closed}
 use Rattle.carol_print.proofs.Texts.{text_both, enclosed_text}
 

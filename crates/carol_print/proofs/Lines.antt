@@ -11,8 +11,8 @@ use Rattle.carol_syntax.specs.declared.bodies.Statement.{Statement}
 use Rattle.carol_syntax.specs.declared.bodies.Statement.TheVariants.{Let, Issue}
 use Rattle.carol_syntax.specs.Formulas.{FormulaTree}
 use Rattle.carol_syntax.specs.Bodies.{BodyTree, Answer, Choice}
-use Rattle.carol_pieces.specs.Pieces.{text_of}
-use Rattle.carol_canon.specs.Canonical.{cell, only_name, with_commas, concat, path, term, formula, field, fields, change, atom, statement, inside}
+use Rattle.carol_print_canon.specs.Pieces.{text_of}
+use Rattle.carol_print_canon.specs.Canonical.{cell, only_name, with_commas, concat, path, term, formula, field, fields, change, atom, statement, inside}
 use Rattle.carol_print.proofs.Texts.{text_both, item_at}
 
 -- one field more

@@ -1,7 +1,7 @@
 -- The text of pieces, one list after the other.
 use Rattle.std.proofs.Common.{Bool, true, false, ◌≡◌, ◌<◌, ℕ, suc, ◌+◌, length, drop, map, get_or, drop-cons, add-one, sym, ap, List, [], ◌∷◌, ◌++◌, refl, append_assoc}
-use Rattle.carol_pieces.specs.Pieces.{Piece, Token, Space, Break, text_of}
-use Rattle.carol_canon.specs.Canonical.{concat, after_commas, with_commas, enclosed, closing}
+use Rattle.carol_print_canon.specs.Pieces.{Piece, Token, Space, Break, text_of}
+use Rattle.carol_print_canon.specs.Canonical.{concat, after_commas, with_commas, enclosed, closing}
 use Rattle.carol_print.specs.Enclosing.{opened, closed}
 use Rattle.std.proofs.lemmas.List.{append-nil}
 

@@ -1,6 +1,6 @@
 ghost use Rattle.std.specs.Prelude.{◌≡◌, ◌++◌, OnOk, [], ◌∷◌, codes};
-ghost use Rattle.carol_pieces.specs.Pieces.{text_of, Space};
-ghost use Rattle.carol_canon.specs.Canonical as canon;
+ghost use Rattle.carol_print_canon.specs.Pieces.{text_of, Space};
+ghost use Rattle.carol_print_canon.specs.Canonical as canon;
 
 use crate::printed::{Printed, push_text};
 use carol_syntax::{Ident, ProductDecl, TermDecl, ValueDecl, ValueKind};

@@ -1,17 +1,16 @@
 ghost use Rattle.std.specs.Prelude.{◌≡◌, ◌++◌, OnOk, IfOk};
 ghost use Rattle.carol_syntax.specs.Files.{file_tree};
 ghost use Rattle.carol_syntax.specs.Shape.{IsFile};
-ghost use Rattle.carol_pieces.specs.Pieces.{text_of};
+ghost use Rattle.carol_print_canon.specs.Pieces.{text_of};
 ghost use Rattle.carol_print.specs.ReadBack.{IsTextOf, IsReadBack};
-ghost use Rattle.carol_canon.specs.Canonical.{canonical, part_of, scene, script};
+ghost use Rattle.carol_print_canon.specs.Canonical.{canonical, part_of, scene, script};
 
 use crate::programs::push_program;
 use crate::scenes::{push_scene, push_script};
-use carol_canon::canonical_is_laid_out;
-use carol_limits::{one_bad, one_text};
-use carol_pieces::laid_out;
-use carol_spelled::canonical_is_read;
+use carol_print_canon::{canonical_is_laid_out, laid_out};
+use carol_print_readback::canonical_is_read;
 use carol_syntax::{File, SceneDecl, ScriptLineList};
+use carol_syntax_meaning::{one_bad, one_text};
 use std::alloc::{AllocError, Global};
 
 // Appends the scene part, where there is one.

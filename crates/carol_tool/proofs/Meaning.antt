@@ -3,7 +3,7 @@ use Rattle.std.proofs.Common.{◌≡◌, ◌≢◌, ◌<◌, ◌≤◌, ℕ, Lis
 use Rattle.std.specs.Prelude.{Option}
 use Rattle.std.specs.Io.KnownBytes.{Consumes, IsAtEnd}
 use Rattle.carol_syntax.specs.Files.{FileTree}
-use Rattle.carol_limits.specs.Outcome.{Read, Bad, Large}
+use Rattle.carol_syntax_meaning.specs.Outcome.{Read, Bad, Large}
 use Rattle.carol_tool.specs.declared.status.Status.{Status}
 use Rattle.carol_tool.specs.declared.status.Status.TheVariants as status
 use Rattle.carol_tool.specs.Words.{IsCommand}

@@ -3,8 +3,8 @@ use Rattle.std.proofs.Common.{◌≡◌, ℕ, List, refl, sym, ◌∙◌, subst,
 use Rattle.std.specs.Prelude.{codes, Result, Ok, Err, IfOk}
 use Rattle.std.specs.declared.alloc.AllocError.{AllocError}
 use Rattle.carol_syntax.specs.Files.{FileTree}
-use Rattle.carol_limits.specs.declared.limit.TextLimit.{TextLimit}
-use Rattle.carol_limits.specs.Outcome.{Outcome, Bad, Large, Means}
+use Rattle.carol_syntax_meaning.specs.declared.limit.TextLimit.{TextLimit}
+use Rattle.carol_syntax_meaning.specs.Outcome.{Outcome, Bad, Large, Means}
 use Rattle.carol_parse.specs.declared.error.TextError.{TextError}
 use Rattle.carol_parse.specs.declared.error.TextError.TheVariants as error
 use Rattle.carol_parse.specs.Answer.{IsMeant, IsOnlyMeant}

@@ -1,9 +1,9 @@
 -- What `step` answers.
 use Rattle.std.specs.Prelude.{◌≡◌, ◌⊎◌, List, ℕ, [], ◌++◌, Some, None, IsSome, codes, decimal}
 use Rattle.carol_syntax.specs.Files.{FileTree}
-use Rattle.carol_limits.specs.declared.limit.TextLimit.{TextLimit}
-use Rattle.carol_limits.specs.declared.limit.TextLimit.TheVariants.{ProgramBytes, FormulaNodes, BodyDepth, ScriptLines}
-use Rattle.carol_limits.specs.Outcome.{Outcome, Read, Bad, Large, Means as TextMeans}
+use Rattle.carol_syntax_meaning.specs.declared.limit.TextLimit.{TextLimit}
+use Rattle.carol_syntax_meaning.specs.declared.limit.TextLimit.TheVariants.{ProgramBytes, FormulaNodes, BodyDepth, ScriptLines}
+use Rattle.carol_syntax_meaning.specs.Outcome.{Outcome, Read, Bad, Large, Means as TextMeans}
 use Rattle.carol_history.specs.Setup.{Setup}
 use Rattle.carol_history.specs.Scripts.{Scripted, scripted}
 use Rattle.carol_plain.specs.declared.input.PlainInput.{PlainInput}

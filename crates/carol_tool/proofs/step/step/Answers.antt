@@ -1,5 +1,5 @@
 use Rattle.carol_syntax.specs.Files.{file_tree}
-use Rattle.carol_limits.specs.Outcome.{Read, Bad, Large}
+use Rattle.carol_syntax_meaning.specs.Outcome.{Read, Bad, Large}
 use Rattle.carol_tool.proofs.Stepped.{said_so, said_only, bad_only, large_only, bad_means, bad_alone, large_means, large_alone}
 use Rattle.carol_tool.proofs.step.step.Goals as goal
 

@@ -1,9 +1,0 @@
-//! Readers of statements and bodies.
-#![tactic(auto)]
-
-mod bodies;
-mod statements;
-#[cfg(test)]
-mod tests;
-
-pub use bodies::body;

@@ -1,9 +1,0 @@
-//! Readers of the declarations of cells.
-#![tactic(auto)]
-
-mod fields;
-mod groups;
-#[cfg(test)]
-mod tests;
-
-pub use groups::cells;

@@ -1,0 +1,91 @@
+//! Decides rows of differences of one kind: `carol_difference_bench KIND SIZE`, with KIND one of chain, cycle and grid, and SIZE
+//! the number of variables, at most 2,000.
+#![tactic(auto)]
+
+ghost use Rattle.std.specs.Prelude.{◌^◌, ◌<◌, unsigned_abs};
+
+use anyhow::bail;
+use carol_difference::{DiffAnswer, are_narrow, decide_difference};
+use carol_formula::{Row, Term, TermError, Variable};
+use std::alloc::{AllocError, Global};
+use std::env;
+
+const MOST_VARIABLES: u32 = 2_000;
+
+const MOST_ROWS: usize = 100_000;
+
+fn main(rt: HostRuntime) -> anyhow::Result<()> {
+    let mut words = env::args(&rt)?;
+    let _program = words.next();
+    let (Some(kind), Some(size)) = (words.next(), words.next()) else {
+        bail!("a kind and a size are wanted");
+    };
+    let size = size.as_str().parse::<u32>()?.min(MOST_VARIABLES);
+    let Ok(rows) = rows_of(rt.alloc(), kind.as_str(), size) else {
+        bail!("no memory");
+    };
+    let count = rows.len();
+    if count > MOST_ROWS || !are_narrow(&rows) {
+        bail!("the rows are too many or too wide");
+    }
+    let Ok(answer) = decide_difference(rt.alloc(), &rows) else {
+        bail!("no answer");
+    };
+    match answer {
+        DiffAnswer::Model(_valuation) => println!(rt; "{count} rows: a model")?,
+        DiffAnswer::Refuted(steps) => {
+            let length = steps.as_slice().len();
+            println!(rt; "{count} rows: refuted in {length} steps")?;
+        }
+    }
+    Ok(())
+}
+
+fn rows_of(alloc: Global, kind: &str, size: u32) -> Result<Vec<Row>, TermError> {
+    let mut rows = Vec::new(alloc);
+    match kind {
+        "chain" => chain(alloc, &mut rows, size)?,
+        "cycle" => {
+            chain(alloc, &mut rows, size)?;
+            order(alloc, &mut rows, size.saturating_sub(1), 0, 0)?;
+        }
+        _ => grid(alloc, &mut rows, size)?,
+    }
+    Ok(rows)
+}
+
+// Each variable is above the one before it. The rows stand from the last to the first, so that each round lowers one more.
+fn chain(alloc: Global, rows: &mut Vec<Row>, size: u32) -> Result<(), TermError> {
+    for high in (1..size).rev() {
+        order(alloc, rows, high - 1, high, 1)?;
+    }
+    Ok(())
+}
+
+// Each variable is near five others, at places that a grid's neighbours have.
+fn grid(alloc: Global, rows: &mut Vec<Row>, size: u32) -> Result<(), TermError> {
+    for (distance, gap) in [(1, 2), (39, 5), (40, 7), (41, 11), (80, 13)] {
+        for high in distance..size {
+            order(alloc, rows, high - distance, high, gap)?;
+            order(alloc, rows, high, high - distance, -100)?;
+        }
+    }
+    Ok(())
+}
+
+// The variable `high` is at least `low` and the gap.
+fn order(
+    alloc: Global,
+    rows: &mut Vec<Row>,
+    low: u32,
+    high: u32,
+    gap: i128,
+) -> Result<(), TermError>
+    requires { unsigned_abs gap < 2 ^ 100 }
+{
+    let low = Term::variable(alloc, Variable(low))?;
+    let high = Term::variable(alloc, Variable(high))?;
+    let term = low.sub(&high)?.add(&Term::constant(alloc, gap))?;
+    rows.push(Row(term)).map_err(AllocError::from)?;
+    Ok(())
+}

@@ -1,5 +1,0 @@
-use Rattle.carol_limits.proofs.Once.{text_once}
-use Rattle.carol_limits.proofs.laws.one_text.Goals as goal
-
-pub returns : goal.returns
-returns c = text_once c.one_cut.ensures c.one_tree.ensures

@@ -1,0 +1,114 @@
+-- Names and numbers.
+use Rattle.std.proofs.Common.{◌≡◌, ℕ, zero, suc, ◌≤◌, ◌⊎◌, Bool, true, false, cond, eqb, ◌||◌, List, [], ◌∷◌, ℤ, pos, refl, inl, inr, arith}
+use Rattle.std.proofs.lemmas.Bool.Decides.{nat_tests}
+use Rattle.std.specs.Prelude.{nat_le, neg_ℤ}
+use Rattle.carol_grammar.specs.Sets.{has}
+use Rattle.carol_syntax.specs.Shape.{IsLiteral, IsWhole, IsName, IsNumber, largest}
+use Rattle.carol_syntax_tokens.specs.declared.kind.Kind.{Kind}
+use Rattle.carol_syntax_tokens.specs.declared.kind.Kind.TheVariants as k
+use Rattle.carol_syntax_tokens.specs.declared.lexeme.Lexeme.{Lexeme}
+use Rattle.carol_syntax_rules.specs.Terminals.{number_of, class_of, numeral, greatest}
+use Rattle.carol_syntax_rules.specs.Rules.{numbers, name, number, positive, num, int, bit}
+use Rattle.carol_parse.proofs.Holds.{Holds, hold_token, hold_gives, hold_either, hold_behind}
+
+-- the classes of names, and of the numbers 0 and 1
+abbrev names : List ℕ
+names = number_of k.Name ∷ []
+
+abbrev below_two : List ℕ
+below_two = 100 ∷ 101 ∷ []
+
+no_name : (n : ℕ) → has names (numeral n) ≡ false
+unfolding number_of
+no_name zero = refl
+no_name (suc zero) = refl
+no_name (suc (suc n)) = elim (nat_le (suc (suc n)) greatest) as (λ b. has names (cond b 102 103) ≡ false) [ true ↦ refl | false ↦ refl ]
+
+named : (kind : Kind) → has names (number_of kind) ≡ true → kind ≡ k.Name
+unfolding number_of
+named k.Name h = refl
+named _ h = absurd cc
+
+name_by : (b : Bool) (kind : Kind) (n : ℕ) → has names (cond b (numeral n) (number_of kind)) ≡ true → kind ≡ k.Name
+name_by true kind n h = absurd (cc (no_name n, h))
+name_by false kind n h = named kind h
+
+name_class : (l : Lexeme) → has names (class_of l) ≡ true → l.kind ≡ k.Name
+unfolding class_of
+name_class l h = name_by (eqb (number_of l.kind) (number_of k.Number)) l.kind l.value h
+
+-- no word is a number
+no_number : (kind : Kind) → has numbers (number_of kind) ≡ false
+unfolding number_of
+no_number k.Number = refl
+no_number _ = refl
+
+numeral_small : (n : ℕ) → has numbers (numeral n) ≡ true → n ≤ largest
+numeral_small zero h = omega arith
+numeral_small (suc zero) h = omega arith
+numeral_small (suc (suc n)) h = go (nat_le (suc (suc n)) greatest) refl h
+  where
+    go : (b : Bool) → nat_le (suc (suc n)) greatest ≡ b → has numbers (cond b 102 103) ≡ true → suc (suc n) ≤ largest
+    go true e h = grind (arith, nat_tests)
+    go false e h = absurd cc
+
+small_by : (b : Bool) (kind : Kind) (n : ℕ) → has numbers (cond b (numeral n) (number_of kind)) ≡ true → n ≤ largest
+small_by true kind n h = numeral_small n h
+small_by false kind n h = absurd (cc (no_number kind, h))
+
+small : (l : Lexeme) → has numbers (class_of l) ≡ true → IsLiteral l.value
+unfolding class_of
+small l h = small_by (eqb (number_of l.kind) (number_of k.Number)) l.kind l.value h
+
+wider : (n : ℕ) → has (101 ∷ 102 ∷ []) n ≡ true → has numbers n ≡ true
+wider n h = elim (eqb n 100) as (λ b. (b || has (101 ∷ 102 ∷ []) n) ≡ true) [ true ↦ refl | false ↦ h ]
+
+negative : (n : ℕ) → IsLiteral n → IsWhole (neg_ℤ (pos n))
+negative zero h = h
+negative (suc n) h = omega arith
+
+-- the numbers that a flag starts as
+abbrev pub IsBit : ℤ → Type 0
+IsBit z = (z ≡ pos 0) ⊎ (z ≡ pos 1)
+
+no_digit : (kind : Kind) → has below_two (number_of kind) ≡ false
+unfolding number_of
+no_digit k.Number = refl
+no_digit _ = refl
+
+no_larger : (b : Bool) → has below_two (cond b 102 103) ≡ false
+no_larger true = refl
+no_larger false = refl
+
+bit_by : (b : Bool) (kind : Kind) (n : ℕ) → has below_two (cond b (numeral n) (number_of kind)) ≡ true → IsBit (pos n)
+bit_by true kind zero h = inl refl
+bit_by true kind (suc zero) h = inr refl
+bit_by true kind (suc (suc n)) h = absurd (cc (no_larger (nat_le (suc (suc n)) greatest), h))
+bit_by false kind n h = absurd (cc (no_digit kind, h))
+
+bit_class : (l : Lexeme) → has below_two (class_of l) ≡ true → IsBit (pos l.value)
+unfolding class_of
+bit_class l h = bit_by (eqb (number_of l.kind) (number_of k.Number)) l.kind l.value h
+
+module _ {bytes : List ℕ} where
+  pub hold_name : Holds bytes (name bytes) IsName
+  unfolding name
+  hold_name = hold_gives (hold_token (λ l g h. g (name_class l h))) (λ l h. h)
+
+  pub hold_number : Holds bytes number (λ l. IsLiteral l.value)
+  hold_number = hold_token (λ l g h. small l h)
+
+  pub hold_num : Holds bytes num IsNumber
+  unfolding num
+  hold_num = hold_gives hold_number (λ l h. h)
+
+  hold_positive : Holds bytes positive (λ l. IsLiteral l.value)
+  hold_positive = hold_token (λ l g h. small l (wider (class_of l) h))
+
+  pub hold_int : Holds bytes int IsWhole
+  unfolding int
+  hold_int = hold_either (hold_gives hold_number (λ l h. h)) (hold_gives (hold_behind hold_positive) (λ l h. negative l.value h))
+
+  pub hold_bit : Holds bytes bit IsBit
+  unfolding bit
+  hold_bit = hold_gives (hold_token (λ l g h. bit_class l h)) (λ l h. h)

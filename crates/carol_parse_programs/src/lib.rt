@@ -1,0 +1,14 @@
+//! Readers of cells, statements and bodies, guards, operations and programs.
+#![tactic(auto)]
+
+mod bodies;
+mod fields;
+mod groups;
+mod guards;
+mod operations;
+mod programs;
+mod statements;
+#[cfg(test)]
+mod tests;
+
+pub use programs::program;

@@ -1,0 +1,13 @@
+pub mod Lists
+pub mod Symbols
+pub mod Words
+pub mod Numbers
+pub mod Fixed
+pub mod Again
+pub mod Standing
+pub mod Unequal
+pub mod Terms
+pub mod Formulas
+pub mod Cells
+pub mod Bodies
+pub mod Files

@@ -1,0 +1,181 @@
+-- What a canonical text is made of, and that it is cut again into what it was made of.
+use Rattle.std.specs.Prelude.{◌≡◌, ℕ, ◌-◌, Bool, true, false, not, ◌&&◌, ◌==◌, if◌then◌else◌, List, [], ◌∷◌, ◌++◌, length, take, drop, Some, codes}
+use Rattle.carol_syntax.specs.Words.{is_word_byte}
+use Rattle.carol_syntax_tokens.specs.declared.kind.Kind.{Kind}
+use Rattle.carol_syntax_tokens.specs.declared.kind.Kind.TheVariants as k
+use Rattle.carol_syntax_tokens.specs.declared.lexeme.Lexeme.{Lexeme}
+use Rattle.carol_syntax_tokens.specs.declared.lexeme.Stop.TheVariants.{End}
+use Rattle.carol_syntax_tokens.specs.declared.public.TokenKind.TheVariants.{Symbol}
+use Rattle.carol_syntax_tokens.specs.declared.place.Place.{Place}
+use Rattle.carol_syntax_tokens.specs.First.{first_token}
+use Rattle.carol_syntax_tokens.specs.Cut.{Cut, is_transcript}
+use Rattle.carol_syntax_tokens.specs.Place.{start}
+use Rattle.carol_syntax_tokens.specs.Tokens.{kind_of}
+
+-- a token with the bytes that spell it, a space, or a line feed
+pub data Piece : Type 0 where
+  Token : (kind : Kind) (value : ℕ) (spelled : List ℕ) → Piece
+  Space : Piece
+  Break : Piece
+
+-- the bytes of pieces
+abbrev pub text_of : List Piece → List ℕ
+text_of [] = []
+text_of (Token kind value spelled ∷ pieces) = spelled ++ text_of pieces
+text_of (Space ∷ pieces) = 32 ∷ text_of pieces
+text_of (Break ∷ pieces) = 10 ∷ text_of pieces
+
+-- the pieces without spaces and line feeds
+abbrev pub tokens_in : List Piece → List Piece
+tokens_in [] = []
+tokens_in (Token kind value spelled ∷ pieces) = Token kind value spelled ∷ tokens_in pieces
+tokens_in (Space ∷ pieces) = tokens_in pieces
+tokens_in (Break ∷ pieces) = tokens_in pieces
+
+-- the bytes alone are this one token
+abbrev pub IsSpelled : Kind → ℕ → List ℕ → Type 0
+IsSpelled kind value spelled = first_token spelled ≡ Some (record { kind = kind; value = value; length = length spelled })
+
+-- the kind is a symbol's, and not a name's, a number's or a keyword's
+abbrev pub is_symbol : Kind → Bool
+is_symbol kind = elim (kind_of kind) [ Symbol ↦ true | _ ↦ false ]
+
+-- a symbol that is another one with `=` behind it
+abbrev pub takes_equals : Kind → Bool
+takes_equals k.Plus = true
+takes_equals k.Minus = true
+takes_equals k.Below = true
+takes_equals k.Above = true
+takes_equals _ = false
+
+-- the byte doesn't lengthen a token of this kind
+abbrev pub ends : Kind → ℕ → Bool
+ends kind b = if is_symbol kind then not (takes_equals kind && b == 61) else not (is_word_byte b)
+
+-- the bytes right behind a token of this kind don't lengthen it
+abbrev pub ends_before : Kind → List ℕ → Bool
+ends_before kind [] = true
+ends_before kind (b ∷ bytes) = ends kind b
+
+-- each token is spelled as one, none is `transcript`, and none is lengthened by what stands right behind it; the bytes
+-- stand behind the pieces
+abbrev pub AreLaidBefore : List ℕ → List Piece → Type 0
+AreLaidBefore bytes [] = Unit {0}
+AreLaidBefore bytes (Token kind value spelled ∷ pieces) =
+    IsSpelled kind value spelled × (is_transcript kind ≡ false) × (ends_before kind (text_of pieces ++ bytes) ≡ true) × AreLaidBefore bytes pieces
+AreLaidBefore bytes (Space ∷ pieces) = AreLaidBefore bytes pieces
+AreLaidBefore bytes (Break ∷ pieces) = AreLaidBefore bytes pieces
+
+-- the same where nothing stands behind them
+abbrev pub AreLaidOut : List Piece → Type 0
+AreLaidOut pieces = AreLaidBefore [] pieces
+
+-- the bytes don't lengthen the last of the pieces
+abbrev pub are_apart : List Piece → List ℕ → Bool
+are_apart [] bytes = true
+are_apart (Token kind value spelled ∷ []) bytes = ends_before kind bytes
+are_apart (piece ∷ pieces) bytes = are_apart pieces bytes
+
+-- the lexeme is the piece, in the bytes
+abbrev pub IsPiece : List ℕ → Lexeme → Piece → Type 0
+IsPiece bytes l (Token kind value spelled) = (l.kind ≡ kind) × (l.value ≡ value) × (take (l.to - l.from) (drop l.from bytes) ≡ spelled)
+IsPiece bytes l Space = ⊥
+IsPiece bytes l Break = ⊥
+
+-- the lexemes are the pieces one by one, in the bytes
+abbrev pub Spells : List ℕ → List Lexeme → List Piece → Type 0
+Spells bytes [] [] = Unit {0}
+Spells bytes [] (piece ∷ pieces) = ⊥
+Spells bytes (l ∷ lexemes) [] = ⊥
+Spells bytes (l ∷ lexemes) (piece ∷ pieces) = IsPiece bytes l piece × Spells bytes lexemes pieces
+
+-- the lexemes are two lists, one for each half of the pieces
+abbrev pub SpellsBoth : List ℕ → List Lexeme → List Piece → List Piece → Type 0
+SpellsBoth bytes lexemes first second =
+    (left : List Lexeme) × (right : List Lexeme) × (lexemes ≡ left ++ right) × Spells bytes left first × Spells bytes right second
+
+-- the text of the pieces is cut to its end into their tokens
+abbrev pub CutAgain : List Piece → Type 0
+CutAgain pieces =
+    (list : List Lexeme) × (end : Place) × Cut start (text_of pieces) list End end × Spells (text_of pieces) list (tokens_in pieces)
+
+-- the bytes of a symbol or a keyword
+abbrev pub codes_of : Kind → List ℕ
+codes_of k.Name = []
+codes_of k.Number = []
+codes_of k.Semicolon = codes ";"
+codes_of k.Colon = codes ":"
+codes_of k.Comma = codes ","
+codes_of k.Dot = codes "."
+codes_of k.Opening = codes "("
+codes_of k.Closing = codes ")"
+codes_of k.OpeningBrace = codes "{"
+codes_of k.ClosingBrace = codes "}"
+codes_of k.Equals = codes "="
+codes_of k.PlusEquals = codes "+="
+codes_of k.MinusEquals = codes "-="
+codes_of k.Plus = codes "+"
+codes_of k.Minus = codes "-"
+codes_of k.Star = codes "*"
+codes_of k.AtMost = codes "<="
+codes_of k.Below = codes "<"
+codes_of k.AtLeast = codes ">="
+codes_of k.Above = codes ">"
+codes_of k.Differs = codes "!="
+codes_of k.Program = codes "program"
+codes_of k.Scene = codes "scene"
+codes_of k.Script = codes "script"
+codes_of k.Transcript = codes "transcript"
+codes_of k.End = codes "end"
+codes_of k.Counter = codes "counter"
+codes_of k.Peak = codes "peak"
+codes_of k.Flag = codes "flag"
+codes_of k.Set = codes "set"
+codes_of k.Record = codes "record"
+codes_of k.Invariant = codes "invariant"
+codes_of k.Guard = codes "guard"
+codes_of k.Op = codes "op"
+codes_of k.Gives = codes "gives"
+codes_of k.Result = codes "result"
+codes_of k.Query = codes "query"
+codes_of k.Under = codes "under"
+codes_of k.Issue = codes "issue"
+codes_of k.Raise = codes "raise"
+codes_of k.Release = codes "release"
+codes_of k.Let = codes "let"
+codes_of k.If = codes "if"
+codes_of k.Else = codes "else"
+codes_of k.Return = codes "return"
+codes_of k.True = codes "true"
+codes_of k.False = codes "false"
+codes_of k.And = codes "and"
+codes_of k.Or = codes "or"
+codes_of k.Not = codes "not"
+codes_of k.Size = codes "size"
+codes_of k.Here = codes "here"
+codes_of k.There = codes "there"
+codes_of k.Replicas = codes "replicas"
+codes_of k.Tries = codes "tries"
+codes_of k.Workers = codes "workers"
+codes_of k.Gossipers = codes "gossipers"
+codes_of k.Session = codes "session"
+codes_of k.At = codes "at"
+codes_of k.Times = codes "times"
+codes_of k.Go = codes "go"
+codes_of k.Gossip = codes "gossip"
+codes_of k.Cut = codes "cut"
+codes_of k.Join = codes "join"
+codes_of k.Shape = codes "shape"
+codes_of k.Open = codes "open"
+codes_of k.In = codes "in"
+codes_of k.Call = codes "call"
+
+-- a symbol or a keyword as a piece
+abbrev pub fixed : Kind → Piece
+fixed kind = Token kind 0 (codes_of kind)
+
+-- the kind is a symbol's or a keyword's
+abbrev pub is_fixed : Kind → Bool
+is_fixed k.Name = false
+is_fixed k.Number = false
+is_fixed _ = true
