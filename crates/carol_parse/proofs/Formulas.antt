@@ -2,7 +2,7 @@
 use Rattle.std.proofs.Common.{ℕ, List, [], ◌∷◌}
 use Rattle.std.specs.Prelude.{fold}
 use Rattle.std.specs.List.{AllByRecursion}
-use Rattle.carol_syntax.specs.Formulas.{FormulaTree, Both, Either}
+use Rattle.carol_syntax.specs.Formulas.{FormulaTree, And, Or}
 use Rattle.carol_syntax.specs.Shape.{IsFormula}
 use Rattle.carol_syntax_rules.specs.Rules.{literal, comparison, atom_literal, more_literals, conjunction, more_conjunctions, formula, denial, nested_literal}
 use Rattle.carol_parse.proofs.Holds.{Holds, hold_any, hold_gives, hold_both, hold_either, hold_many, hold_begins, hold_deeper, hold_behind, hold_before}
@@ -30,14 +30,14 @@ module _ {bytes : List ℕ} where
   hold_conjunction : Holds bytes conjunction IsFormula
   unfolding conjunction
   hold_conjunction =
-      hold_gives (hold_both (hold_deeper literal) hold_literals) (λ p h. folded Both (λ f g a b. (a, b)) p.0 p.1 h.0 h.1)
+      hold_gives (hold_both (hold_deeper literal) hold_literals) (λ p h. folded And (λ f g a b. (a, b)) p.0 p.1 h.0 h.1)
 
   hold_conjunctions : Holds bytes more_conjunctions (AllByRecursion IsFormula)
   hold_conjunctions = hold_many (hold_behind hold_conjunction)
 
   pub hold_formula : Holds bytes formula IsFormula
   unfolding formula
-  hold_formula = hold_gives (hold_both hold_conjunction hold_conjunctions) (λ p h. folded Either (λ f g a b. (a, b)) p.0 p.1 h.0 h.1)
+  hold_formula = hold_gives (hold_both hold_conjunction hold_conjunctions) (λ p h. folded Or (λ f g a b. (a, b)) p.0 p.1 h.0 h.1)
 
   hold_denial : Holds bytes denial IsFormula
   unfolding denial

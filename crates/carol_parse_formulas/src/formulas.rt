@@ -1,5 +1,5 @@
 ghost use Rattle.std.specs.Prelude.{◌≡◌, ◌≢◌, IfOk};
-ghost use Rattle.carol_syntax.specs.Formulas.{formula_tree, Both, Either};
+ghost use Rattle.carol_syntax.specs.Formulas.{formula_tree, And, Or};
 ghost use Rattle.carol_grammar.specs.Rule.Rule.{deeper};
 ghost use Rattle.carol_syntax_tokens.specs.declared.kind.Kind.TheVariants as kinds;
 ghost use Rattle.carol_syntax_rules.specs.Rules as rules;
@@ -136,7 +136,7 @@ fn conjunction<'a>(reader: &Reader<'_>, tokens: &'a [Lexeme]) -> Read<'a, Formul
 }
 
 fn both(alloc: Global, left: FormulaDecl, right: FormulaDecl) -> Result<FormulaDecl, AllocError>
-    ensures { IfOk result (λ f. formula_tree f ≡ Both (formula_tree left) (formula_tree right)) }
+    ensures { IfOk result (λ f. formula_tree f ≡ And (formula_tree left) (formula_tree right)) }
 {
     let left = Boxed::new(alloc, left)?;
     let right = Boxed::new(alloc, right)?;
@@ -144,7 +144,7 @@ fn both(alloc: Global, left: FormulaDecl, right: FormulaDecl) -> Result<FormulaD
 }
 
 fn one_of(alloc: Global, left: FormulaDecl, right: FormulaDecl) -> Result<FormulaDecl, AllocError>
-    ensures { IfOk result (λ f. formula_tree f ≡ Either (formula_tree left) (formula_tree right)) }
+    ensures { IfOk result (λ f. formula_tree f ≡ Or (formula_tree left) (formula_tree right)) }
 {
     let left = Boxed::new(alloc, left)?;
     let right = Boxed::new(alloc, right)?;

@@ -16,8 +16,8 @@ use Rattle.carol_syntax.specs.declared.bodies.Change.{Change}
 use Rattle.carol_syntax.specs.declared.bodies.Change.TheVariants as change
 use Rattle.carol_syntax.specs.declared.bodies.Statement.{Statement}
 use Rattle.carol_syntax.specs.declared.bodies.Statement.TheVariants as statement
-use Rattle.carol_syntax.specs.Formulas.{FormulaTree, Always, Never, Denial, Both, Either, Comparison}
-use Rattle.carol_syntax.specs.Bodies.{BodyTree, Answer, Choice}
+use Rattle.carol_syntax.specs.Formulas.{FormulaTree, True, False, Not, And, Or, Compare}
+use Rattle.carol_syntax.specs.Bodies.{BodyTree, Return, If}
 use Rattle.carol_syntax.specs.Files.{NamedFormula, OpTree}
 use Rattle.carol_syntax.specs.Unplaced.{nowhere, unplaced_name, unplaced_value, unplaced_product, unplaced_term, unplaced_formula, unplaced_change, unplaced_atom, unplaced_statement, unplaced_body, unplaced_named, unplaced_op}
 use Rattle.carol_plain.specs.Only.{only}
@@ -61,42 +61,42 @@ most_unplaced t =
     only_same (λ p. not p.minus && is_limit p) (λ p. not p.minus && is_limit p) unplaced_product (λ p. ap (λ b. not p.minus && b) (limit_unplaced p)) t.products
 
 always_unplaced : (f : FormulaTree) → is_always (unplaced_formula f) ≡ is_always f
-always_unplaced Always = refl
-always_unplaced Never = refl
-always_unplaced (Denial f) = refl
-always_unplaced (Both f g) = refl
-always_unplaced (Either f g) = refl
-always_unplaced (Comparison left s right) = refl
+always_unplaced True = refl
+always_unplaced False = refl
+always_unplaced (Not f) = refl
+always_unplaced (And f g) = refl
+always_unplaced (Or f g) = refl
+always_unplaced (Compare left s right) = refl
 
 three_same : (a b c x y : Bool) → a ≡ x → c ≡ y → (a && b && c) ≡ (x && b && y)
 three_same a b c x y e f = ap (λ z. z && b && c) e ∙ ap (λ z. x && b && z) f
 
 from_least_unplaced : (f : FormulaTree) → is_from_least (unplaced_formula f) ≡ is_from_least f
-from_least_unplaced Always = refl
-from_least_unplaced Never = refl
-from_least_unplaced (Denial f) = refl
-from_least_unplaced (Both f g) = refl
-from_least_unplaced (Either f g) = refl
-from_least_unplaced (Comparison left s right) = three_same _ _ _ _ _ (least_unplaced left) (argument_unplaced right)
+from_least_unplaced True = refl
+from_least_unplaced False = refl
+from_least_unplaced (Not f) = refl
+from_least_unplaced (And f g) = refl
+from_least_unplaced (Or f g) = refl
+from_least_unplaced (Compare left s right) = three_same _ _ _ _ _ (least_unplaced left) (argument_unplaced right)
 
 to_most_unplaced : (f : FormulaTree) → is_to_most (unplaced_formula f) ≡ is_to_most f
-to_most_unplaced Always = refl
-to_most_unplaced Never = refl
-to_most_unplaced (Denial f) = refl
-to_most_unplaced (Both f g) = refl
-to_most_unplaced (Either f g) = refl
-to_most_unplaced (Comparison left s right) = three_same _ _ _ _ _ (argument_unplaced left) (most_unplaced right)
+to_most_unplaced True = refl
+to_most_unplaced False = refl
+to_most_unplaced (Not f) = refl
+to_most_unplaced (And f g) = refl
+to_most_unplaced (Or f g) = refl
+to_most_unplaced (Compare left s right) = three_same _ _ _ _ _ (argument_unplaced left) (most_unplaced right)
 
 two_same : (a b x y : Bool) → a ≡ x → b ≡ y → (a && b) ≡ (x && y)
 two_same a b x y e f = ap (λ z. z && b) e ∙ ap (λ z. x && z) f
 
 bounds_unplaced : (f : FormulaTree) → are_bounds (unplaced_formula f) ≡ are_bounds f
-bounds_unplaced Always = refl
-bounds_unplaced Never = refl
-bounds_unplaced (Denial f) = refl
-bounds_unplaced (Both f g) = two_same _ _ _ _ (from_least_unplaced f) (to_most_unplaced g)
-bounds_unplaced (Either f g) = refl
-bounds_unplaced (Comparison left s right) = refl
+bounds_unplaced True = refl
+bounds_unplaced False = refl
+bounds_unplaced (Not f) = refl
+bounds_unplaced (And f g) = two_same _ _ _ _ (from_least_unplaced f) (to_most_unplaced g)
+bounds_unplaced (Or f g) = refl
+bounds_unplaced (Compare left s right) = refl
 
 bounded_unplaced : (n : NamedFormula) → is_bounded (unplaced_named n) ≡ is_bounded n
 bounded_unplaced n = two_same _ _ _ _ refl (bounds_unplaced n.formula)
@@ -115,9 +115,9 @@ issue_unplaced (statement.Issue atoms) =
     only_same (λ a. adds_argument a.change) (λ a. adds_argument a.change) unplaced_atom (λ a. change_unplaced a.change) atoms
 
 body_unplaced : (b : BodyTree) → adds_and_returns (unplaced_body b) ≡ adds_and_returns b
-body_unplaced (Answer plain value) =
+body_unplaced (Return plain value) =
     two_same _ _ _ _ (only_same issues_adding issues_adding unplaced_statement issue_unplaced plain) (argument_unplaced value)
-body_unplaced (Choice plain test first second) = refl
+body_unplaced (If plain test first second) = refl
 
 adds_unplaced : (op : OpTree) → adds (unplaced_op op) ≡ adds op
 adds_unplaced op =
@@ -189,32 +189,32 @@ at_most_is : (s : Sign) → is_at_most s ≡ true → s ≡ sign.AtMost
 at_most_is sign.AtMost h = refl
 at_most_is _ h = absurd cc
 
-pub always_is : (f : FormulaTree) → is_always f ≡ true → f ≡ Always
-always_is Always h = refl
+pub always_is : (f : FormulaTree) → is_always f ≡ true → f ≡ True
+always_is True h = refl
 always_is _ h = absurd cc
 
-comparison_is : (l l' r r' : TermDecl) (s s' : Sign) → l ≡ l' → s ≡ s' → r ≡ r' → Comparison l s r ≡ Comparison l' s' r'
+comparison_is : (l l' r r' : TermDecl) (s s' : Sign) → l ≡ l' → s ≡ s' → r ≡ r' → Compare l s r ≡ Compare l' s' r'
 comparison_is l l' r r' s s' e f g = cc
 
-from_least_is : (f : FormulaTree) → is_from_least f ≡ true → unplaced_formula f ≡ Comparison (number_term true most_argument) sign.AtMost argument_term
-from_least_is (Comparison left s right) h =
+from_least_is : (f : FormulaTree) → is_from_least f ≡ true → unplaced_formula f ≡ Compare (number_term true most_argument) sign.AtMost argument_term
+from_least_is (Compare left s right) h =
     let both = both_pass _ _ h in
     let first = both_pass _ _ both.0 in
     comparison_is _ _ _ _ _ _ (least_is left first.0) (at_most_is s first.1) (argument_is right both.1)
 from_least_is _ h = absurd cc
 
-to_most_is : (f : FormulaTree) → is_to_most f ≡ true → unplaced_formula f ≡ Comparison argument_term sign.AtMost (number_term false most_argument)
-to_most_is (Comparison left s right) h =
+to_most_is : (f : FormulaTree) → is_to_most f ≡ true → unplaced_formula f ≡ Compare argument_term sign.AtMost (number_term false most_argument)
+to_most_is (Compare left s right) h =
     let both = both_pass _ _ h in
     let first = both_pass _ _ both.0 in
     comparison_is _ _ _ _ _ _ (argument_is left first.0) (at_most_is s first.1) (most_is right both.1)
 to_most_is _ h = absurd cc
 
-both_is : (f g f' g' : FormulaTree) → f ≡ f' → g ≡ g' → Both f g ≡ Both f' g'
+both_is : (f g f' g' : FormulaTree) → f ≡ f' → g ≡ g' → And f g ≡ And f' g'
 both_is f g f' g' e h = cc
 
 bounds_are : (f : FormulaTree) → are_bounds f ≡ true → unplaced_formula f ≡ argument_bounds
-bounds_are (Both f g) h = let both = both_pass _ _ h in both_is _ _ _ _ (from_least_is f both.0) (to_most_is g both.1)
+bounds_are (And f g) h = let both = both_pass _ _ h in both_is _ _ _ _ (from_least_is f both.0) (to_most_is g both.1)
 bounds_are _ h = absurd cc
 
 named_is : (w w' : List ℕ) (f f' : FormulaTree) → w ≡ w' → f ≡ f' → (let n : NamedFormula = record { name = name_of w; formula = f } in n) ≡ record { name = name_of w'; formula = f' }
@@ -256,13 +256,13 @@ plain_is [] counter h t = absurd cc
 plain_is (s ∷ []) counter h t = ap (λ r. r ∷ []) (issue_is s counter h t)
 plain_is (s ∷ r ∷ plain) counter h t = absurd cc
 
-answer_is : (plain plain' : List Statement) (value value' : TermDecl) → plain ≡ plain' → value ≡ value' → Answer plain value ≡ Answer plain' value'
+answer_is : (plain plain' : List Statement) (value value' : TermDecl) → plain ≡ plain' → value ≡ value' → Return plain value ≡ Return plain' value'
 answer_is plain plain' value value' e f = cc
 
-body_is : (b : BodyTree) (counter : List ℕ) → adds_and_returns b ≡ true → target_of_body b ≡ Some counter → unplaced_body b ≡ Answer (statement.Issue (adding counter ∷ []) ∷ []) argument_term
-body_is (Answer plain value) counter h t =
+body_is : (b : BodyTree) (counter : List ℕ) → adds_and_returns b ≡ true → target_of_body b ≡ Some counter → unplaced_body b ≡ Return (statement.Issue (adding counter ∷ []) ∷ []) argument_term
+body_is (Return plain value) counter h t =
     let both = both_pass _ _ h in answer_is _ _ _ _ (plain_is plain counter both.0 t) (argument_is value both.1)
-body_is (Choice plain test first second) counter h t = absurd cc
+body_is (If plain test first second) counter h t = absurd cc
 
 op_is : (name : Ident) (params params' : List NamedFormula) (gives gives' : FormulaTree) (body body' : BodyTree) → params ≡ params' → gives ≡ gives' → body ≡ body'
     → (let o : OpTree = record { name = name; params = params; gives = gives; body = body } in o) ≡ record { name = name; params = params'; gives = gives'; body = body' }

@@ -11,7 +11,7 @@ use Rattle.carol_syntax.specs.declared.scenes.CommandDecl.{CommandDecl}
 use Rattle.carol_syntax.specs.declared.scenes.SessionDecl.{SessionDecl}
 use Rattle.carol_syntax.specs.declared.scenes.SceneDecl.{SceneDecl}
 use Rattle.carol_syntax.specs.declared.scenes.ScriptLine.{ScriptLine}
-use Rattle.carol_syntax.specs.Formulas.{FormulaTree, Always}
+use Rattle.carol_syntax.specs.Formulas.{FormulaTree, True}
 use Rattle.carol_syntax.specs.Files.{OpTree, ProgramTree}
 use Rattle.carol_plain.specs.Only.{only}
 use Rattle.carol_plain.specs.Adder.{most_argument, AddsTo, target_of}
@@ -73,7 +73,7 @@ adds_of op (Some counter) h = adds_from_same counter op h
 adder_decides : (cells : List CellDecl) (op : OpTree) → Decides (is_adder cells op) (IsAdder cells op)
 adder_decides cells op = (adder_takes cells op, λ h. (Decides-and (adds op) (is_some (cell_of cells op)) (λ e. e, λ e. e) (some_decides (cell_of cells op))).1 (adds_of op (target_of op) h.0, h.1))
 
-always_decides : (f : FormulaTree) → Decides (is_always f) (f ≡ Always)
+always_decides : (f : FormulaTree) → Decides (is_always f) (f ≡ True)
 always_decides f = (always_is f, λ e. ap is_always e)
 
 empty_decides : {X : Type 0} (xs : List X) → Decides (eqb (length xs) 0) (xs ≡ [])

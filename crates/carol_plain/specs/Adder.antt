@@ -9,8 +9,8 @@ use Rattle.carol_syntax.specs.declared.bodies.AtomDecl.{AtomDecl}
 use Rattle.carol_syntax.specs.declared.bodies.Change.TheVariants as change
 use Rattle.carol_syntax.specs.declared.bodies.Statement.{Statement}
 use Rattle.carol_syntax.specs.declared.bodies.Statement.TheVariants as statement
-use Rattle.carol_syntax.specs.Formulas.{FormulaTree, Always, Both, Comparison}
-use Rattle.carol_syntax.specs.Bodies.{BodyTree, Answer, Choice}
+use Rattle.carol_syntax.specs.Formulas.{FormulaTree, True, And, Compare}
+use Rattle.carol_syntax.specs.Bodies.{BodyTree, Return, If}
 use Rattle.carol_syntax.specs.Files.{OpTree}
 use Rattle.carol_syntax.specs.Unplaced.{nowhere, unplaced_op}
 use Rattle.carol_plain.specs.Only.{only}
@@ -43,8 +43,8 @@ argument_term =
 -- `-1000000000 <= n and n <= 1000000000`
 abbrev pub argument_bounds : FormulaTree
 argument_bounds =
-    Both (Comparison (number_term true most_argument) sign.AtMost argument_term)
-    (Comparison argument_term sign.AtMost (number_term false most_argument))
+    And (Compare (number_term true most_argument) sign.AtMost argument_term)
+    (Compare argument_term sign.AtMost (number_term false most_argument))
 
 -- `counter += n`
 abbrev pub adding : List ℕ → AtomDecl
@@ -55,8 +55,8 @@ abbrev pub adder : List ℕ → List ℕ → OpTree
 adder name counter = record {
   name = name_of name;
   params = record { name = name_of parameter; formula = argument_bounds } ∷ [];
-  gives = Always;
-  body = Answer (statement.Issue (adding counter ∷ []) ∷ []) argument_term;
+  gives = True;
+  body = Return (statement.Issue (adding counter ∷ []) ∷ []) argument_term;
 }
 
 -- the operation is this one, with its own name, wherever it stands
@@ -70,8 +70,8 @@ changed_word _ = None
 
 -- the same of a body of one statement, and of an operation
 abbrev pub target_of_body : BodyTree → Option (List ℕ)
-target_of_body (Answer plain value) = option_and_then changed_word (only plain)
-target_of_body (Choice plain test first second) = None
+target_of_body (Return plain value) = option_and_then changed_word (only plain)
+target_of_body (If plain test first second) = None
 
 abbrev pub target_of : OpTree → Option (List ℕ)
 target_of op = target_of_body op.body

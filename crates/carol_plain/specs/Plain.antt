@@ -10,7 +10,7 @@ use Rattle.carol_syntax.specs.declared.scenes.SessionDecl.{SessionDecl}
 use Rattle.carol_syntax.specs.declared.scenes.SceneDecl.{SceneDecl}
 use Rattle.carol_syntax.specs.declared.scenes.ScriptLine.{ScriptLine}
 use Rattle.carol_syntax.specs.declared.scenes.ScriptLine.TheVariants as said
-use Rattle.carol_syntax.specs.Formulas.{Always}
+use Rattle.carol_syntax.specs.Formulas.{True}
 use Rattle.carol_syntax.specs.Files.{OpTree, ProgramTree, FileTree}
 use Rattle.carol_history.specs.declared.session.PlainCommand.{PlainCommand}
 use Rattle.carol_history.specs.declared.session.PlainSession.{PlainSession}
@@ -61,7 +61,7 @@ pub record IsPlainProgram (program : ProgramTree) : Type 0 where
   pub cells : length program.cells ≤ 16
   pub counters : All IsCounter program.cells
   pub counters_differ : IsDistinct bytes_eq (cell_words program)
-  pub invariant : program.invariant ≡ Always
+  pub invariant : program.invariant ≡ True
   pub guards : program.guards ≡ []
   pub ops : length program.ops ≤ 64
   pub adders : All (IsAdder program.cells) program.ops

@@ -21,8 +21,8 @@ use Rattle.carol_syntax.specs.declared.scenes.CommandDecl.{CommandDecl}
 use Rattle.carol_syntax.specs.declared.scenes.SessionDecl.{SessionDecl}
 use Rattle.carol_syntax.specs.declared.scenes.SceneDecl.{SceneDecl}
 use Rattle.carol_syntax.specs.declared.scenes.ScriptLine.{ScriptLine}
-use Rattle.carol_syntax.specs.Formulas.{FormulaTree, Always, Both, Comparison}
-use Rattle.carol_syntax.specs.Bodies.{BodyTree, Answer, Choice}
+use Rattle.carol_syntax.specs.Formulas.{FormulaTree, True, And, Compare}
+use Rattle.carol_syntax.specs.Bodies.{BodyTree, Return, If}
 use Rattle.carol_syntax.specs.Files.{NamedFormula, OpTree, ProgramTree}
 use Rattle.carol_plain.specs.Only.{only}
 use Rattle.carol_plain.specs.Adder.{most_argument, parameter}
@@ -70,7 +70,7 @@ is_most term = is_some_and (λ product. not product.minus && is_limit product) (
 
 -- the formula is `true`
 abbrev pub is_always : FormulaTree → Bool
-is_always Always = true
+is_always True = true
 is_always _ = false
 
 -- the sign is `<=`
@@ -80,15 +80,15 @@ is_at_most _ = false
 
 -- the formula is the lower bound, the upper one, or both of them
 abbrev pub is_from_least : FormulaTree → Bool
-is_from_least (Comparison left sign right) = is_least left && is_at_most sign && is_argument right
+is_from_least (Compare left sign right) = is_least left && is_at_most sign && is_argument right
 is_from_least _ = false
 
 abbrev pub is_to_most : FormulaTree → Bool
-is_to_most (Comparison left sign right) = is_argument left && is_at_most sign && is_most right
+is_to_most (Compare left sign right) = is_argument left && is_at_most sign && is_most right
 is_to_most _ = false
 
 abbrev pub are_bounds : FormulaTree → Bool
-are_bounds (Both left right) = is_from_least left && is_to_most right
+are_bounds (And left right) = is_from_least left && is_to_most right
 are_bounds _ = false
 
 -- Operations.
@@ -109,8 +109,8 @@ issues_adding _ = false
 
 -- the body is one such statement, and returns `n`
 abbrev pub adds_and_returns : BodyTree → Bool
-adds_and_returns (Answer plain value) = is_some_and issues_adding (only plain) && is_argument value
-adds_and_returns (Choice plain test first second) = false
+adds_and_returns (Return plain value) = is_some_and issues_adding (only plain) && is_argument value
+adds_and_returns (If plain test first second) = false
 
 -- the operation adds its argument to some cell, and returns it
 abbrev pub adds : OpTree → Bool

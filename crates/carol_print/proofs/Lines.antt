@@ -10,7 +10,7 @@ use Rattle.carol_syntax.specs.declared.bodies.AtomDecl.{AtomDecl}
 use Rattle.carol_syntax.specs.declared.bodies.Statement.{Statement}
 use Rattle.carol_syntax.specs.declared.bodies.Statement.TheVariants.{Let, Issue}
 use Rattle.carol_syntax.specs.Formulas.{FormulaTree}
-use Rattle.carol_syntax.specs.Bodies.{BodyTree, Answer, Choice}
+use Rattle.carol_syntax.specs.Bodies.{BodyTree, Return, If}
 use Rattle.carol_print_canon.specs.Pieces.{text_of}
 use Rattle.carol_print_canon.specs.Canonical.{cell, only_name, with_commas, concat, path, term, formula, field, fields, change, atom, statement, inside}
 use Rattle.carol_print.proofs.Texts.{text_both, item_at}
@@ -29,10 +29,10 @@ let_text n t out = simp (append_assoc, append-nil, text_both)
 pub issue_text : (atoms : List AtomDecl) (out : List ℕ) → (out ++ codes "issue " ++ text_of (with_commas (map atom atoms))) ++ codes ";\n" ≡ out ++ text_of (statement (Issue atoms))
 issue_text atoms out = simp (append_assoc, text_both)
 
-pub answer_text : (plain : List Statement) (t : TermDecl) (out : List ℕ) → (out ++ text_of (concat (map statement plain)) ++ codes "return " ++ text_of (term t)) ++ codes ";\n" ≡ out ++ text_of (inside (Answer plain t))
+pub answer_text : (plain : List Statement) (t : TermDecl) (out : List ℕ) → (out ++ text_of (concat (map statement plain)) ++ codes "return " ++ text_of (term t)) ++ codes ";\n" ≡ out ++ text_of (inside (Return plain t))
 answer_text plain t out = simp (append_assoc, text_both)
 
-pub choice_text : (plain : List Statement) (test : FormulaTree) (first second : BodyTree) (out : List ℕ) → (out ++ text_of (concat (map statement plain)) ++ codes "if " ++ text_of (formula test) ++ codes " {\n" ++ text_of (inside first) ++ codes "} else {\n" ++ text_of (inside second)) ++ codes "}\n" ≡ out ++ text_of (inside (Choice plain test first second))
+pub choice_text : (plain : List Statement) (test : FormulaTree) (first second : BodyTree) (out : List ℕ) → (out ++ text_of (concat (map statement plain)) ++ codes "if " ++ text_of (formula test) ++ codes " {\n" ++ text_of (inside first) ++ codes "} else {\n" ++ text_of (inside second)) ++ codes "}\n" ≡ out ++ text_of (inside (If plain test first second))
 choice_text plain test first second out = simp (append_assoc, text_both)
 
 pub set_text : (n : Ident) (members : List Ident) (out : List ℕ) → (out ++ codes "set " ++ text_of (only_name n) ++ codes " { " ++ text_of (with_commas (map only_name members))) ++ codes " };\n" ≡ out ++ text_of (cell (cell_of.Set n members))

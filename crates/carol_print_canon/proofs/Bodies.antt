@@ -5,7 +5,7 @@ use Rattle.carol_syntax.specs.declared.bodies.Change.TheVariants as change_of
 use Rattle.carol_syntax.specs.declared.bodies.AtomDecl.{AtomDecl}
 use Rattle.carol_syntax.specs.declared.bodies.Statement.{Statement}
 use Rattle.carol_syntax.specs.declared.bodies.Statement.TheVariants as statement_of
-use Rattle.carol_syntax.specs.Bodies.{BodyTree, Answer, Choice}
+use Rattle.carol_syntax.specs.Bodies.{BodyTree, Return, If}
 use Rattle.carol_syntax.specs.Shape.{IsChange, IsAtom, IsStatement, IsBody}
 use Rattle.carol_syntax_tokens.specs.declared.kind.Kind.TheVariants as k
 use Rattle.carol_print_canon.specs.Pieces.{Space, Break}
@@ -39,10 +39,10 @@ module _ (w : Laws) where
       (w.fixed k.Issue refl, refl, refl, line_stands (with_commas (map atom atoms)) (with_commas_fit w IsAtom atom atom_fits atoms h.1) bytes)
 
   pub inside_stands : (b : BodyTree) → IsBody b → Stands (inside b)
-  inside_stands (Answer plain t) h bytes =
+  inside_stands (Return plain t) h bytes =
       stands_both w (concat (map statement plain)) _ bytes (rows_stand w IsStatement statement statement_stands plain h.0)
       (w.fixed k.Return refl, refl, refl, line_stands (term t) (term_fits w t h.1) bytes)
-  inside_stands (Choice plain test first second) h bytes =
+  inside_stands (If plain test first second) h bytes =
       stands_both w (concat (map statement plain)) _ bytes (rows_stand w IsStatement statement statement_stands plain h.0) (
         w.fixed k.If refl,
         refl,

@@ -3,7 +3,7 @@ use Rattle.std.proofs.Common.{ℕ, Bool, true, false, List, ◌∷◌, refl}
 use Rattle.std.specs.Prelude.{◌||◌}
 use Rattle.carol_syntax.specs.declared.formulas.Sign.{Sign}
 use Rattle.carol_syntax.specs.declared.formulas.Sign.TheVariants as sign_of
-use Rattle.carol_syntax.specs.Formulas.{FormulaTree, Always, Never, Denial, Both, Either, Comparison}
+use Rattle.carol_syntax.specs.Formulas.{FormulaTree, True, False, Not, And, Or, Compare}
 use Rattle.carol_syntax.specs.Shape.{IsFormula}
 use Rattle.carol_syntax_tokens.specs.declared.kind.Kind.TheVariants as k
 use Rattle.carol_print_canon.specs.Pieces.{Space, AreLaidBefore}
@@ -25,18 +25,18 @@ module _ (w : Laws) where
   sign_laid sign_of.Differs rest bytes h = (w.fixed k.Differs refl, refl, refl, h)
 
   pub formula_fits : (f : FormulaTree) → IsFormula f → Fits (formula f)
-  formula_fits Always h bytes soft = (w.fixed k.True refl, refl, soft_kind k.True (λ _. refl) bytes soft, tt)
-  formula_fits Never h bytes soft = (w.fixed k.False refl, refl, soft_kind k.False (λ _. refl) bytes soft, tt)
-  formula_fits (Denial f) h bytes soft =
+  formula_fits True h bytes soft = (w.fixed k.True refl, refl, soft_kind k.True (λ _. refl) bytes soft, tt)
+  formula_fits False h bytes soft = (w.fixed k.False refl, refl, soft_kind k.False (λ _. refl) bytes soft, tt)
+  formula_fits (Not f) h bytes soft =
       (w.fixed k.Not refl, refl, refl, enclosed_fits (is_either f || is_both f) (formula f) (formula_fits f h) bytes soft)
-  formula_fits (Both f g) h bytes soft =
+  formula_fits (And f g) h bytes soft =
       soft_both w (enclosed (is_either f) (formula f)) _ bytes
       (enclosed_fits (is_either f) (formula f) (formula_fits f h.0)) refl
       (w.fixed k.And refl, refl, refl, enclosed_fits (is_either g || is_both g) (formula g) (formula_fits g h.1) bytes soft)
-  formula_fits (Either f g) h bytes soft =
+  formula_fits (Or f g) h bytes soft =
       soft_both w (formula f) _ bytes
       (formula_fits f h.0) refl
       (w.fixed k.Or refl, refl, refl, enclosed_fits (is_either g) (formula g) (formula_fits g h.1) bytes soft)
-  formula_fits (Comparison left s right) h bytes soft =
+  formula_fits (Compare left s right) h bytes soft =
       soft_both w (term left) (Space ∷ sign s ∷ Space ∷ term right) bytes (term_fits w left h.0) refl
       (sign_laid s (term right) bytes (term_fits w right h.1 bytes soft))

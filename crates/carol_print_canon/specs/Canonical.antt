@@ -26,8 +26,8 @@ use Rattle.carol_syntax.specs.declared.scenes.SessionDecl.{SessionDecl}
 use Rattle.carol_syntax.specs.declared.scenes.SceneDecl.{SceneDecl}
 use Rattle.carol_syntax.specs.declared.scenes.ScriptLine.{ScriptLine}
 use Rattle.carol_syntax.specs.declared.scenes.ScriptLine.TheVariants as line_of
-use Rattle.carol_syntax.specs.Formulas.{FormulaTree, Always, Never, Denial, Both, Either, Comparison}
-use Rattle.carol_syntax.specs.Bodies.{BodyTree, Answer, Choice}
+use Rattle.carol_syntax.specs.Formulas.{FormulaTree, True, False, Not, And, Or, Compare}
+use Rattle.carol_syntax.specs.Bodies.{BodyTree, Return, If}
 use Rattle.carol_syntax.specs.Files.{NamedFormula, OpTree, ProgramTree, FileTree}
 use Rattle.carol_syntax_tokens.specs.declared.kind.Kind.{Kind}
 use Rattle.carol_syntax_tokens.specs.declared.kind.Kind.TheVariants as k
@@ -167,11 +167,11 @@ sign sign_of.Same = equals
 sign sign_of.Differs = Token k.Differs 0 (codes "!=")
 
 abbrev pub is_either : FormulaTree → Bool
-is_either (Either f g) = true
+is_either (Or f g) = true
 is_either _ = false
 
 abbrev pub is_both : FormulaTree → Bool
-is_both (Both f g) = true
+is_both (And f g) = true
 is_both _ = false
 
 -- in parentheses, where they are needed
@@ -180,12 +180,12 @@ enclosed true ps = opening ∷ (ps ++ closing ∷ [])
 enclosed false ps = ps
 
 abbrev pub formula : FormulaTree → Pieces
-formula Always = Token k.True 0 (codes "true") ∷ []
-formula Never = Token k.False 0 (codes "false") ∷ []
-formula (Denial f) = Token k.Not 0 (codes "not") ∷ Space ∷ enclosed (is_either f || is_both f) (formula f)
-formula (Both f g) = enclosed (is_either f) (formula f) ++ (Space ∷ Token k.And 0 (codes "and") ∷ Space ∷ enclosed (is_either g || is_both g) (formula g))
-formula (Either f g) = formula f ++ (Space ∷ Token k.Or 0 (codes "or") ∷ Space ∷ enclosed (is_either g) (formula g))
-formula (Comparison left s right) = term left ++ (Space ∷ sign s ∷ Space ∷ term right)
+formula True = Token k.True 0 (codes "true") ∷ []
+formula False = Token k.False 0 (codes "false") ∷ []
+formula (Not f) = Token k.Not 0 (codes "not") ∷ Space ∷ enclosed (is_either f || is_both f) (formula f)
+formula (And f g) = enclosed (is_either f) (formula f) ++ (Space ∷ Token k.And 0 (codes "and") ∷ Space ∷ enclosed (is_either g || is_both g) (formula g))
+formula (Or f g) = formula f ++ (Space ∷ Token k.Or 0 (codes "or") ∷ Space ∷ enclosed (is_either g) (formula g))
+formula (Compare left s right) = term left ++ (Space ∷ sign s ∷ Space ∷ term right)
 
 -- Cells.
 
@@ -227,8 +227,8 @@ statement (statement_of.Issue atoms) = Token k.Issue 0 (codes "issue") ∷ Space
 
 -- the lines between the braces of a body
 abbrev pub inside : BodyTree → Pieces
-inside (Answer plain t) = concat (map statement plain) ++ (Token k.Return 0 (codes "return") ∷ Space ∷ (term t ++ semicolon ∷ Break ∷ []))
-inside (Choice plain test first second) =
+inside (Return plain t) = concat (map statement plain) ++ (Token k.Return 0 (codes "return") ∷ Space ∷ (term t ++ semicolon ∷ Break ∷ []))
+inside (If plain test first second) =
     concat (map statement plain)
     ++ (Token k.If 0 (codes "if") ∷ Space ∷ (formula test
     ++ (Space ∷ opening_brace ∷ Break ∷ (inside first

@@ -8,7 +8,7 @@ use Rattle.carol_syntax.specs.declared.bodies.Change.TheVariants as change_of
 use Rattle.carol_syntax.specs.declared.bodies.AtomDecl.{AtomDecl}
 use Rattle.carol_syntax.specs.declared.bodies.Statement.{Statement}
 use Rattle.carol_syntax.specs.declared.bodies.Statement.TheVariants as statement_of
-use Rattle.carol_syntax.specs.Bodies.{BodyTree, Answer, Choice}
+use Rattle.carol_syntax.specs.Bodies.{BodyTree, Return, If}
 use Rattle.carol_syntax.specs.Unplaced.{unplaced_change, unplaced_atom, unplaced_statement, unplaced_body}
 use Rattle.carol_syntax.specs.Shape.{IsChange, IsAtom, IsStatement, IsBody, AreSome}
 use Rattle.carol_syntax_rules.specs.Rules.{ending, change, atom, query, release, binding, issue, plain, plain_words, plains, body, answer, choice, listed}
@@ -75,12 +75,12 @@ module _ {bytes : List ℕ} where
   pub reach_body : (b : BodyTree) {us : List Piece} → IsBody b
       → Reaches bytes (body bytes) (text.opening_brace ∷ onto (text.inside b) (text.closing_brace ∷ us)) us (Same unplaced_body b)
   unfolding body answer choice
-  reach_body (Answer xs t) h =
+  reach_body (Return xs t) h =
       simp onto-append (reach_gives (reach_behind refl (reach_both (reach_plains xs h.0)
-      (reach_before refl (answer_of (reach_gives {Q = ends_as xs (Answer xs t)} (reach_behind refl (reach_before refl (reach_term t h.1)))
+      (reach_before refl (answer_of (reach_gives {Q = ends_as xs (Return xs t)} (reach_behind refl (reach_before refl (reach_term t h.1)))
       (λ y e ys es. cc)))))) (λ y e. e.1 y.0 e.0))
-  reach_body (Choice xs test first second) h =
+  reach_body (If xs test first second) h =
       simp onto-append (reach_gives (reach_behind refl (reach_both (reach_plains xs h.0)
-      (reach_before refl (choice_of (reach_gives {Q = ends_as xs (Choice xs test first second)}
+      (reach_before refl (choice_of (reach_gives {Q = ends_as xs (If xs test first second)}
       (reach_behind refl (reach_both (reach_formula test h.1)
       (reach_both (reach_body first h.2) (reach_behind refl (reach_body second h.3))))) (λ y e ys es. cc)))))) (λ y e. e.1 y.0 e.0))

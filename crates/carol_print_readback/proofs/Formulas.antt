@@ -5,7 +5,7 @@ use Rattle.carol_grammar.specs.Rule.Rule.{deeper}
 use Rattle.carol_syntax.specs.declared.formulas.TermDecl.{TermDecl}
 use Rattle.carol_syntax.specs.declared.formulas.Sign.{Sign}
 use Rattle.carol_syntax.specs.declared.formulas.Sign.TheVariants as sign_of
-use Rattle.carol_syntax.specs.Formulas.{FormulaTree, Always, Never, Denial, Both, Either, Comparison}
+use Rattle.carol_syntax.specs.Formulas.{FormulaTree, True, False, Not, And, Or, Compare}
 use Rattle.carol_syntax.specs.Unplaced.{unplaced_formula}
 use Rattle.carol_syntax.specs.Shape.{IsTerm, IsFormula}
 use Rattle.carol_syntax_rules.specs.Rules.{literal, sign, comparison, atom_literal, conjunction, formula, denial, nested_literal}
@@ -22,7 +22,7 @@ record Spelled (bytes : List ℕ) (f : FormulaTree) : Type 0 where
       → Reaches bytes (deeper literal) (onto (text.formula f) us) us (Same unplaced_formula f)
 
 onto_comparison : (left : TermDecl) (s : Sign) (right : TermDecl) (us : List Piece)
-    → onto (text.formula (Comparison left s right)) us ≡ onto (text.term left) (text.sign s ∷ onto (text.term right) us)
+    → onto (text.formula (Compare left s right)) us ≡ onto (text.term left) (text.sign s ∷ onto (text.term right) us)
 onto_comparison left sign_of.AtMost right us = onto-append (text.term left) _ us
 onto_comparison left sign_of.Below right us = onto-append (text.term left) _ us
 onto_comparison left sign_of.AtLeast right us = onto-append (text.term left) _ us
@@ -34,12 +34,12 @@ module _ {bytes : List ℕ} where
   joined_of : {ts us : List Piece} {P : FormulaTree → Type 0} → Reaches bytes (deeper literal) ts us P → Reaches bytes conjunction ts us P
   unfolding conjunction
   joined_of {P = P} p =
-      reach_gives (reach_both p (reach_end {Q = λ ys. ys ≡ []} refl)) (λ y e. subst (λ ys. P (fold Both y.0 ys)) (sym e.1) e.0)
+      reach_gives (reach_both p (reach_end {Q = λ ys. ys ≡ []} refl)) (λ y e. subst (λ ys. P (fold And y.0 ys)) (sym e.1) e.0)
 
   whole_of : {ts us : List Piece} {P : FormulaTree → Type 0} → Reaches bytes conjunction ts us P → Reaches bytes formula ts us P
   unfolding formula
   whole_of {P = P} p =
-      reach_gives (reach_both p (reach_end {Q = λ ys. ys ≡ []} refl)) (λ y e. subst (λ ys. P (fold Either y.0 ys)) (sym e.1) e.0)
+      reach_gives (reach_both p (reach_end {Q = λ ys. ys ≡ []} refl)) (λ y e. subst (λ ys. P (fold Or y.0 ys)) (sym e.1) e.0)
 
   atom_of : {ts us : List Piece} {P : FormulaTree → Type 0} → Reaches bytes (atom_literal bytes) ts us P
       → Reaches bytes (deeper literal) ts us P
@@ -80,22 +80,22 @@ module _ {bytes : List ℕ} where
       reach_right (reach_right (reach_right (reach_right (reach_right (reach_gives (reach_word refl) (λ l e. refl))))))
 
   reach_comparison : (left : TermDecl) (s : Sign) (right : TermDecl) {us : List Piece} → IsTerm left → IsTerm right
-      → Reaches bytes (comparison bytes) (onto (text.formula (Comparison left s right)) us) us
-      (Same unplaced_formula (Comparison left s right))
+      → Reaches bytes (comparison bytes) (onto (text.formula (Compare left s right)) us) us
+      (Same unplaced_formula (Compare left s right))
   unfolding comparison
   reach_comparison left s right l r =
       reach_along (onto_comparison left s right _) (reach_gives
       (reach_both (reach_term left l) (reach_both (reach_sign s _) (reach_term right r))) (λ y e. cc))
 
   both_joined : (f g : FormulaTree) (us : List Piece) → Spelled bytes f → Spelled bytes g
-      → Reaches bytes conjunction (onto (text.formula (Both f g)) us) us (Same unplaced_formula (Both f g))
+      → Reaches bytes conjunction (onto (text.formula (And f g)) us) us (Same unplaced_formula (And f g))
   unfolding conjunction
   both_joined f g us p q =
       simp onto-append (reach_folded (enclosed_joined f (text.is_either f) _ refl p)
       (reach_behind refl (enclosed_single g (text.is_either g || text.is_both g) us refl q)) (λ a b e h. cc))
 
   either_whole : (f g : FormulaTree) (us : List Piece) → Spelled bytes f → Spelled bytes g
-      → Reaches bytes formula (onto (text.formula (Either f g)) us) us (Same unplaced_formula (Either f g))
+      → Reaches bytes formula (onto (text.formula (Or f g)) us) us (Same unplaced_formula (Or f g))
   unfolding formula
   either_whole f g us p q =
       simp onto-append (reach_folded (p.whole _) (reach_behind refl (enclosed_joined g (text.is_either g) us refl q)) (λ a b e h. cc))
@@ -106,15 +106,15 @@ module _ {bytes : List ℕ} where
 
   spelled : (f : FormulaTree) → IsFormula f → Spelled bytes f
   unfolding atom_literal nested_literal denial
-  spelled Always h = spelled_single Always (λ us. atom_of (reach_left (reach_gives (reach_word refl) (λ l e. refl))))
-  spelled Never h = spelled_single Never (λ us. atom_of (reach_right (reach_left (reach_gives (reach_word refl) (λ l e. refl)))))
-  spelled (Denial f) h =
-      spelled_single (Denial f) (λ us. nested_of (reach_left (reach_begins
+  spelled True h = spelled_single True (λ us. atom_of (reach_left (reach_gives (reach_word refl) (λ l e. refl))))
+  spelled False h = spelled_single False (λ us. atom_of (reach_right (reach_left (reach_gives (reach_word refl) (λ l e. refl)))))
+  spelled (Not f) h =
+      spelled_single (Not f) (λ us. nested_of (reach_left (reach_begins
       (reach_gives (reach_behind refl (enclosed_single f (text.is_either f || text.is_both f) us refl (spelled f h))) (λ y e. cc)))))
-  spelled (Comparison left s right) h =
-      spelled_single (Comparison left s right) (λ us. atom_of (reach_right (reach_right (reach_comparison left s right h.0 h.1))))
-  spelled (Both f g) h = spelled_joined (Both f g) (λ e. cc) (λ us. both_joined f g us (spelled f h.0) (spelled g h.1))
-  spelled (Either f g) h = record {
+  spelled (Compare left s right) h =
+      spelled_single (Compare left s right) (λ us. atom_of (reach_right (reach_right (reach_comparison left s right h.0 h.1))))
+  spelled (And f g) h = spelled_joined (And f g) (λ e. cc) (λ us. both_joined f g us (spelled f h.0) (spelled g h.1))
+  spelled (Or f g) h = record {
     whole = λ us. either_whole f g us (spelled f h.0) (spelled g h.1);
     joined = λ e us. absurd cc;
     single = λ e us. absurd cc;

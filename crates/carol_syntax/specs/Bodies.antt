@@ -10,13 +10,13 @@ use Rattle.carol_syntax.specs.Formulas.{FormulaTree, formula_tree}
 
 -- the statements of a body, and how it ends
 pub data BodyTree : Type 0 where
-  Answer : (plain : List Statement) (value : TermDecl) → BodyTree
-  Choice : (plain : List Statement) (test : FormulaTree) (first second : BodyTree) → BodyTree
+  Return : (plain : List Statement) (value : TermDecl) → BodyTree
+  If : (plain : List Statement) (test : FormulaTree) (first second : BodyTree) → BodyTree
 
 -- an end, once the statements before it are given
 abbrev pub tree_of_end : Last-F (List Statement → BodyTree) BodyTree → List Statement → BodyTree
-tree_of_end (layer.Return value) plain = Answer plain value
-tree_of_end (layer.If test first second) plain = Choice plain (formula_tree test) first second
+tree_of_end (layer.Return value) plain = Return plain value
+tree_of_end (layer.If test first second) plain = If plain (formula_tree test) first second
 
 abbrev pub tree_of_body : Body-F (List Statement → BodyTree) BodyTree → BodyTree
 tree_of_body body = body.last body.plain

@@ -26,8 +26,8 @@ use Rattle.carol_syntax.specs.declared.scenes.SceneDecl.{SceneDecl}
 use Rattle.carol_syntax.specs.declared.scenes.ScriptLine.{ScriptLine}
 use Rattle.carol_syntax.specs.declared.scenes.ScriptLine.TheVariants.{Go, Gossip, Cut, Join}
 use Rattle.carol_syntax.specs.Words.{is_word, is_keyword, longest_name}
-use Rattle.carol_syntax.specs.Formulas.{FormulaTree, Always, Never, Denial, Both, Either, Comparison}
-use Rattle.carol_syntax.specs.Bodies.{BodyTree, Answer, Choice}
+use Rattle.carol_syntax.specs.Formulas.{FormulaTree, True, False, Not, And, Or, Compare}
+use Rattle.carol_syntax.specs.Bodies.{BodyTree, Return, If}
 use Rattle.carol_syntax.specs.Files.{NamedFormula, OpTree, ProgramTree, FileTree}
 
 -- the greatest number of a text
@@ -67,12 +67,12 @@ abbrev pub IsTerm : TermDecl → Type 0
 IsTerm t = AreSome IsProduct t.products
 
 abbrev pub IsFormula : FormulaTree → Type 0
-IsFormula Always = Unit {0}
-IsFormula Never = Unit {0}
-IsFormula (Denial f) = IsFormula f
-IsFormula (Both f g) = IsFormula f × IsFormula g
-IsFormula (Either f g) = IsFormula f × IsFormula g
-IsFormula (Comparison left sign right) = IsTerm left × IsTerm right
+IsFormula True = Unit {0}
+IsFormula False = Unit {0}
+IsFormula (Not f) = IsFormula f
+IsFormula (And f g) = IsFormula f × IsFormula g
+IsFormula (Or f g) = IsFormula f × IsFormula g
+IsFormula (Compare left sign right) = IsTerm left × IsTerm right
 
 abbrev pub StartsAs : FieldKind → ℤ → Type 0
 StartsAs Flag start = (start ≡ pos 0) ⊎ (start ≡ pos 1)
@@ -105,8 +105,8 @@ IsStatement (statement.Let name term) = IsName name × IsTerm term
 IsStatement (statement.Issue atoms) = AreSome IsAtom atoms
 
 abbrev pub IsBody : BodyTree → Type 0
-IsBody (Answer plain value) = AllByRecursion IsStatement plain × IsTerm value
-IsBody (Choice plain test first second) = AllByRecursion IsStatement plain × IsFormula test × IsBody first × IsBody second
+IsBody (Return plain value) = AllByRecursion IsStatement plain × IsTerm value
+IsBody (If plain test first second) = AllByRecursion IsStatement plain × IsFormula test × IsBody first × IsBody second
 
 abbrev pub IsNamed : NamedFormula → Type 0
 IsNamed n = IsName n.name × IsFormula n.formula

@@ -18,8 +18,8 @@ use Rattle.carol_syntax.specs.declared.bodies.Statement.TheVariants as statement
 use Rattle.carol_syntax.specs.declared.scenes.CommandDecl.{CommandDecl}
 use Rattle.carol_syntax.specs.declared.scenes.SessionDecl.{SessionDecl}
 use Rattle.carol_syntax.specs.declared.scenes.SceneDecl.{SceneDecl}
-use Rattle.carol_syntax.specs.Formulas.{FormulaTree, Always, Never, Denial, Both, Either, Comparison}
-use Rattle.carol_syntax.specs.Bodies.{BodyTree, Answer, Choice}
+use Rattle.carol_syntax.specs.Formulas.{FormulaTree, True, False, Not, And, Or, Compare}
+use Rattle.carol_syntax.specs.Bodies.{BodyTree, Return, If}
 use Rattle.carol_syntax.specs.Files.{NamedFormula, OpTree, ProgramTree, FileTree}
 
 abbrev pub nowhere : Span
@@ -41,12 +41,12 @@ abbrev pub unplaced_term : TermDecl → TermDecl
 unplaced_term t = record { span = nowhere; products = map unplaced_product t.products }
 
 abbrev pub unplaced_formula : FormulaTree → FormulaTree
-unplaced_formula Always = Always
-unplaced_formula Never = Never
-unplaced_formula (Denial f) = Denial (unplaced_formula f)
-unplaced_formula (Both f g) = Both (unplaced_formula f) (unplaced_formula g)
-unplaced_formula (Either f g) = Either (unplaced_formula f) (unplaced_formula g)
-unplaced_formula (Comparison left sign right) = Comparison (unplaced_term left) sign (unplaced_term right)
+unplaced_formula True = True
+unplaced_formula False = False
+unplaced_formula (Not f) = Not (unplaced_formula f)
+unplaced_formula (And f g) = And (unplaced_formula f) (unplaced_formula g)
+unplaced_formula (Or f g) = Or (unplaced_formula f) (unplaced_formula g)
+unplaced_formula (Compare left sign right) = Compare (unplaced_term left) sign (unplaced_term right)
 
 abbrev pub unplaced_field : FieldDecl → FieldDecl
 unplaced_field f = record f { name = unplaced_name f.name }
@@ -72,9 +72,9 @@ unplaced_statement (statement.Let name term) = statement.Let (unplaced_name name
 unplaced_statement (statement.Issue atoms) = statement.Issue (map unplaced_atom atoms)
 
 abbrev pub unplaced_body : BodyTree → BodyTree
-unplaced_body (Answer plain value) = Answer (map unplaced_statement plain) (unplaced_term value)
-unplaced_body (Choice plain test first second) =
-    Choice (map unplaced_statement plain) (unplaced_formula test) (unplaced_body first) (unplaced_body second)
+unplaced_body (Return plain value) = Return (map unplaced_statement plain) (unplaced_term value)
+unplaced_body (If plain test first second) =
+    If (map unplaced_statement plain) (unplaced_formula test) (unplaced_body first) (unplaced_body second)
 
 abbrev pub unplaced_named : NamedFormula → NamedFormula
 unplaced_named n = record { name = unplaced_name n.name; formula = unplaced_formula n.formula }

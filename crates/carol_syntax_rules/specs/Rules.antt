@@ -31,8 +31,8 @@ use Rattle.carol_syntax.specs.declared.scenes.SessionDecl.{SessionDecl}
 use Rattle.carol_syntax.specs.declared.scenes.SceneDecl.{SceneDecl}
 use Rattle.carol_syntax.specs.declared.scenes.ScriptLine.{ScriptLine}
 use Rattle.carol_syntax.specs.declared.scenes.ScriptLine.TheVariants as line_of
-use Rattle.carol_syntax.specs.Formulas.{FormulaTree, Always, Never, Denial, Both, Either, Comparison}
-use Rattle.carol_syntax.specs.Bodies.{BodyTree, Answer, Choice}
+use Rattle.carol_syntax.specs.Formulas.{FormulaTree, True, False, Not, And, Or, Compare}
+use Rattle.carol_syntax.specs.Bodies.{BodyTree, Return, If}
 use Rattle.carol_syntax.specs.Files.{NamedFormula, OpTree, ProgramTree, FileTree}
 use Rattle.carol_syntax_tokens.specs.declared.kind.Kind.{Kind}
 use Rattle.carol_syntax_tokens.specs.declared.kind.Kind.TheVariants as k
@@ -241,26 +241,26 @@ sign =
     (either (sign_word k.Equals sign_of.Same) (sign_word k.Differs sign_of.Differs)))))
 
 unfoldable pub comparison : List ℕ → RuleOf FormulaTree
-comparison bytes = gives (λ p. Comparison p.0 p.1.0 p.1.1) (both (term bytes) (both sign (term bytes)))
+comparison bytes = gives (λ p. Compare p.0 p.1.0 p.1.1) (both (term bytes) (both sign (term bytes)))
 
 -- a literal that no other stands in
 unfoldable pub atom_literal : List ℕ → RuleOf FormulaTree
-atom_literal bytes = either (gives (λ l. Always) (word k.True)) (either (gives (λ l. Never) (word k.False)) (comparison bytes))
+atom_literal bytes = either (gives (λ l. True) (word k.True)) (either (gives (λ l. False) (word k.False)) (comparison bytes))
 
 abbrev pub more_literals : RuleOf (List FormulaTree)
 more_literals = many (behind_word k.And (deeper literal))
 
 unfoldable pub conjunction : RuleOf FormulaTree
-conjunction = gives (λ p. fold Both p.0 p.1) (both (deeper literal) more_literals)
+conjunction = gives (λ p. fold And p.0 p.1) (both (deeper literal) more_literals)
 
 abbrev pub more_conjunctions : RuleOf (List FormulaTree)
 more_conjunctions = many (behind_word k.Or conjunction)
 
 unfoldable pub formula : RuleOf FormulaTree
-formula = gives (λ p. fold Either p.0 p.1) (both conjunction more_conjunctions)
+formula = gives (λ p. fold Or p.0 p.1) (both conjunction more_conjunctions)
 
 unfoldable pub denial : RuleOf FormulaTree
-denial = gives (λ f. Denial f) (behind_word k.Not (deeper literal))
+denial = gives (λ f. Not f) (behind_word k.Not (deeper literal))
 
 -- a literal that others stand in
 unfoldable pub nested_literal : RuleOf FormulaTree
@@ -310,11 +310,11 @@ body bytes =
     gives (λ p. p.1 p.0) (behind_word k.OpeningBrace (both (plains bytes) (before_word (deeper ending) k.ClosingBrace)))
 
 unfoldable pub answer : List ℕ → RuleOf (List Statement → BodyTree)
-answer bytes = gives (λ t. λ plain. Answer plain t) (behind_word k.Return (before_word (term bytes) k.Semicolon))
+answer bytes = gives (λ t. λ plain. Return plain t) (behind_word k.Return (before_word (term bytes) k.Semicolon))
 
 unfoldable pub choice : List ℕ → RuleOf (List Statement → BodyTree)
 choice bytes =
-    gives (λ p. λ plain. Choice plain p.0 p.1.0 p.1.1) (behind_word k.If (both formula (both (body bytes) (behind_word k.Else (body bytes)))))
+    gives (λ p. λ plain. If plain p.0 p.1.0 p.1.1) (behind_word k.If (both formula (both (body bytes) (behind_word k.Else (body bytes)))))
 
 -- Programs.
 

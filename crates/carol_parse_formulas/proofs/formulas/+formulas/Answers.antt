@@ -1,7 +1,7 @@
 use Rattle.std.proofs.Common.{◌≡◌, ◌-◌, suc, true, false, ◌∷◌, [], sym, ◌∙◌, ap, subst, arith, ◌⊎◌, inl, inr}
 use Rattle.carol_grammar.specs.Rule.Rule.{deeper}
 use Rattle.carol_grammar.specs.Reading.{next_in, reads_within}
-use Rattle.carol_syntax.specs.Formulas.{formula_tree, Both, Either}
+use Rattle.carol_syntax.specs.Formulas.{formula_tree, And, Or}
 use Rattle.carol_syntax_tokens.specs.declared.kind.Kind.TheVariants as k
 use Rattle.carol_syntax_rules.specs.Terminals.{class_of, number_of}
 use Rattle.carol_syntax_rules.specs.Rules as rules
@@ -15,13 +15,13 @@ use Rattle.carol_parse_formulas.proofs.formulas.+formulas.Goals.{literal-else-re
 pub conjunction-loop-preserved : goal.conjunction-loop-preserved
 conjunction-loop-preserved t c =
     let e : next_in class_of (number_of k.And ∷ []) c.loop.rest.now ≡ true = cc in
-    let one = fold_on Both c.args.reader.now.count c.loop.counter (next_in class_of (number_of k.And ∷ [])) (read_by c.args.reader.now (rules.behind_word k.And (deeper rules.literal))) (formula_tree c.loop.whole) c.loop.rest.now (formula_tree c.in_ok-right.right) c.in_ok-right.more.now c.loop-test.true e c.in_ok-right.ensures in
+    let one = fold_on And c.args.reader.now.count c.loop.counter (next_in class_of (number_of k.And ∷ [])) (read_by c.args.reader.now (rules.behind_word k.And (deeper rules.literal))) (formula_tree c.loop.whole) c.loop.rest.now (formula_tree c.in_ok-right.right) c.in_ok-right.more.now c.loop-test.true e c.in_ok-right.ensures in
     rw c.in_ok-whole.ensures (sym one ∙ c.loop.invariant)
 
 pub formula-loop-preserved : goal.formula-loop-preserved
 formula-loop-preserved t c =
     let e : next_in class_of (number_of k.Or ∷ []) c.loop.rest.now ≡ true = cc in
-    let one = fold_on Either c.args.reader.now.count c.loop.counter (next_in class_of (number_of k.Or ∷ [])) (read_by c.args.reader.now (rules.behind_word k.Or rules.conjunction)) (formula_tree c.loop.whole) c.loop.rest.now (formula_tree c.in_ok-right.right) c.in_ok-right.more.now c.loop-test.true e c.in_ok-right.ensures in
+    let one = fold_on Or c.args.reader.now.count c.loop.counter (next_in class_of (number_of k.Or ∷ [])) (read_by c.args.reader.now (rules.behind_word k.Or rules.conjunction)) (formula_tree c.loop.whole) c.loop.rest.now (formula_tree c.in_ok-right.right) c.in_ok-right.more.now c.loop-test.true e c.in_ok-right.ensures in
     rw c.in_ok-whole.ensures (sym one ∙ c.loop.invariant)
 
 pub literal-returns-then-next_among : goal.literal-returns-then-next_among

@@ -1,7 +1,7 @@
 use Rattle.std.proofs.Common.{◌≡◌, ◌+◌, ◌-◌, ◌*◌, ◌∷◌, [], fold}
 use Rattle.carol_grammar.specs.Rule.Rule.{deeper}
 use Rattle.carol_grammar.specs.Reading.{read_many, next_in, giving}
-use Rattle.carol_syntax.specs.Formulas.{formula_tree, Both, Either}
+use Rattle.carol_syntax.specs.Formulas.{formula_tree, And, Or}
 use Rattle.carol_syntax_tokens.specs.declared.kind.Kind.TheVariants as k
 use Rattle.carol_syntax_rules.specs.Terminals.{class_of, number_of}
 use Rattle.carol_syntax_rules.specs.Rules as rules
@@ -30,7 +30,7 @@ abbrev pub decreases-nested_literal : goal.decreases-nested_literal
 decreases-nested_literal l = 6 * l.reader.now.depth + 5
 
 abbrev pub invariant-conjunction-loop : goal.invariant-conjunction-loop
-invariant-conjunction-loop l = giving (fold Both (formula_tree l.whole)) (read_many (l.reader.count - l.counter) (next_in class_of (number_of k.And ∷ [])) (read_by l.reader (rules.behind_word k.And (deeper rules.literal))) l.rest) ≡ read_by l.reader rules.conjunction l.tokens
+invariant-conjunction-loop l = giving (fold And (formula_tree l.whole)) (read_many (l.reader.count - l.counter) (next_in class_of (number_of k.And ∷ [])) (read_by l.reader (rules.behind_word k.And (deeper rules.literal))) l.rest) ≡ read_by l.reader rules.conjunction l.tokens
 
 abbrev pub invariant-formula-loop : goal.invariant-formula-loop
-invariant-formula-loop l = giving (fold Either (formula_tree l.whole)) (read_many (l.reader.count - l.counter) (next_in class_of (number_of k.Or ∷ [])) (read_by l.reader (rules.behind_word k.Or rules.conjunction)) l.rest) ≡ read_by l.reader rules.formula l.tokens
+invariant-formula-loop l = giving (fold Or (formula_tree l.whole)) (read_many (l.reader.count - l.counter) (next_in class_of (number_of k.Or ∷ [])) (read_by l.reader (rules.behind_word k.Or rules.conjunction)) l.rest) ≡ read_by l.reader rules.formula l.tokens
