@@ -4,8 +4,8 @@ use Rattle.carol_grammar.specs.Reading.Reading.{got, stuck}
 use Rattle.carol_grammar.proofs.ReadingLemmas.{split_join}
 use Rattle.carol_grammar.proofs.Right.{Right}
 
--- Two readings of lists that share a front and the token after it: both find the same and stop at the same place, or
--- both went beyond that token.
+-- Two readings of lists that share a front and the token after it: both find the same and stop at
+-- the same place, or both went beyond that token.
 
 abbrev pub left : {T A : Type 0} → Reading T A → List T
 left (got v rest) = rest

@@ -5,15 +5,15 @@ use Rattle.carol_grammar.specs.Sentence.{Sentence, Deep, IsSentence, Begins}
 use Rattle.carol_grammar.specs.Reading.{Reading, first, may_be_empty, reads_within, ended}
 use Rattle.carol_grammar.specs.Reading.Reading.{got, stuck}
 use Rattle.carol_grammar.specs.Sound.{goes_on, is_sound, IsSound}
-use Rattle.carol_grammar.specs.Found.{IsOnly, IsFault, Answers}
+use Rattle.carol_grammar.specs.Found.{IsFault, Answers}
 use Rattle.carol_grammar.proofs.Right.{Right}
 use Rattle.carol_grammar.proofs.RightDeep.{right_within}
 use Rattle.carol_grammar.proofs.Grows.{within_grows}
 use Rattle.carol_grammar.proofs.Alike.{SameNext, Like, left}
 use Rattle.carol_grammar.proofs.AlikeDeep.{alike_within}
 
--- Reading a whole list by a sound rule of a sound grammar, within bounds above the list's length, answers what the
--- grammar says.
+-- Reading a whole list by a sound rule of a sound grammar, within bounds above the list's length,
+-- answers what the grammar says.
 
 whole_like : {T A : Type 0} (a b : Reading T A) (w : A) → b ≡ got w [] → Like [] [] a b → a ≡ got w []
 whole_like a b w h (inl l) = l.2 ∙ sym l.3 ∙ h
@@ -92,15 +92,7 @@ module _ (T V : Type 0) (Value : V → Type 0) (g : Grammar T V Value) (sound : 
       let x = (right n).sound ts v (t ∷ rest) e in
       stopped n ts x.0 t rest c x.1 (ap (λ z. left z) e) ([], v, (n, subst (λ z. Sentence g.kind n (Deep g n n) r z v) (sym (append-nil x.0)) x.2))
 
-  pub found_whole : (n : ℕ) (ts : List T) (v : A) (rest : List T) → length ts < n → reads_within g n n r ts ≡ got v rest → length rest < 1 → IsOnly g r ts v
-  found_whole n ts v [] c e h = (found_all n ts v [] c e).1
-  found_whole n ts v (t ∷ rest) c e h = absurd (omega arith)
-
-  pub found_more : (n : ℕ) (ts : List T) (v : A) (rest : List T) → length ts < n → reads_within g n n r ts ≡ got v rest → 0 < length rest → IsFault g r ts rest
-  found_more n ts v [] c e h = absurd (omega arith)
-  found_more n ts v (t ∷ rest) c e h = found_all n ts v (t ∷ rest) c e
-
-  pub found_fault : (n : ℕ) (ts rest : List T) → length ts < n → reads_within g n n r ts ≡ stuck rest → IsFault g r ts rest
+  found_fault : (n : ℕ) (ts rest : List T) → length ts < n → reads_within g n n r ts ≡ stuck rest → IsFault g r ts rest
   found_fault n ts [] c e =
       let x = (right n).viable ts [] e in
       let whole = x.1 ∙ append-nil x.0 in

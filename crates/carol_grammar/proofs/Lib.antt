@@ -12,6 +12,4 @@ pub mod AlikeParts
 pub mod AlikeRule
 pub mod AlikeDeep
 pub mod Answered
-pub mod BracketsSound
 pub mod Repeating
-pub mod BracketsLemmas

@@ -1,13 +1,10 @@
-use Rattle.std.proofs.Common.{◌≡◌, ℕ, zero, suc, ◌+◌, ◌-◌, ◌≤◌, ◌<◌, Bool, true, false, cond, List, [], ◌∷◌, ◌++◌, refl, sym, ◌∙◌, ap, arith, append_assoc}
+use Rattle.std.proofs.Common.{◌≡◌, ℕ, zero, suc, ◌+◌, ◌-◌, ◌<◌, Bool, true, false, cond, List, [], ◌∷◌, ◌++◌, refl, sym, ◌∙◌, ap, arith, append_assoc}
 use Rattle.std.proofs.lemmas.List.{append-nil}
 use Rattle.carol_grammar.specs.Reading.{Reading, onward, giving, read_many, behind}
 use Rattle.carol_grammar.specs.Reading.Reading.{got, stuck}
 
--- A loop that reads one value after another: at any turn the values so far and what is still read are the whole.
-
-pub behind_none : {T A : Type 0} (z : Reading T (List A)) → behind [] z ≡ z
-behind_none (got vs rest) = refl
-behind_none (stuck rest) = refl
+-- A loop that reads one value after another: at any turn the values so far and what is still read
+-- are the whole.
 
 behind_one : {T A : Type 0} (front : List A) (v : A) (z : Reading T (List A)) → behind front (giving (λ vs. v ∷ vs) z) ≡ behind (front ++ v ∷ []) z
 behind_one front v (got vs rest) = ap (λ z. got z rest) (sym (append_assoc front (v ∷ []) vs))
@@ -33,8 +30,3 @@ pub many_over : {T A : Type 0} (m : ℕ) (more : List T → Bool) (r : List T �
 many_over zero more r front ts b = ap (λ z. got z ts) (append-nil front)
 many_over (suc m) more r front ts b =
     ap (λ c. behind front (cond c (onward (r ts) (λ v rest. giving (λ vs. v ∷ vs) (read_many m more r rest))) (got [] ts))) b ∙ ap (λ z. got z ts) (append-nil front)
-
-pub many_end : {T A : Type 0} (n i : ℕ) (more : List T → Bool) (r : List T → Reading T A) (front : List A) (ts : List T) → n ≤ i → behind front (read_many (n - i) more r ts) ≡ got front ts
-many_end n i more r front ts h =
-    let e : n - i ≡ 0 = omega arith in
-    ap (λ m. behind front (read_many m more r ts)) e ∙ ap (λ z. got z ts) (append-nil front)

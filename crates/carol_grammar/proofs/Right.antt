@@ -4,8 +4,8 @@ use Rattle.carol_grammar.specs.Reading.{Reading, next_in}
 use Rattle.carol_grammar.specs.Reading.Reading.{got, stuck}
 use Rattle.carol_grammar.proofs.SetLemmas.{has-within, next_within}
 
--- A reading of lists is right for a language: its sentences begin with the kinds of begin, go on with those of goes,
--- and are empty only where empty says so.
+-- A reading of lists is right for a language: its sentences begin with the kinds of begin, go on
+-- with those of goes, and are empty only where empty says so.
 pub record Right {T A : Type 0} (kind : T → ℕ) (L : List T → A → Type 0) (r : List T → Reading T A) (begin goes : List ℕ) (empty : Bool) : Type 0 where
   pub sound : (ts : List T) (v : A) (rest : List T) → r ts ≡ got v rest → (front : List T) × (ts ≡ front ++ rest) × L front v
   pub complete : (front : List T) (v : A) (rest : List T) → L front v → next_in kind goes rest ≡ false → r (front ++ rest) ≡ got v rest

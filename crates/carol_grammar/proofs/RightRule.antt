@@ -10,7 +10,8 @@ use Rattle.carol_grammar.proofs.RightBoth.{right_both}
 use Rattle.carol_grammar.proofs.RightMany.{right_many}
 use Rattle.carol_grammar.proofs.RightParts.{right_token, right_gives, right_either, right_perhaps, right_begins}
 
--- Reading by a sound rule is right for its sentences, if it is one level deeper, where the rule goes there.
+-- Reading by a sound rule is right for its sentences, if it is one level deeper, where the rule
+-- goes there.
 
 module _ (T V : Type 0) (Value : V → Type 0) (g : Grammar T V Value) (n : ℕ) (E : (v : V) → List T → Value v → Type 0) (e : (v : V) → List T → Reading T (Value v)) (below : Bool) (deep : below ≡ true → (v : V) → Right g.kind (E v) (e v) (g.starts v) (g.goes v) false) where
   pub right_rule : {A : Type 0} (r : Rule T V Value A) → is_sound g below r ≡ true → Right g.kind (Sentence g.kind n E r) (reads g.kind g.starts n e r) (first g.starts r) (goes_on g r) (may_be_empty r)

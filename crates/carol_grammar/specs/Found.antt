@@ -1,3 +1,4 @@
+-- What a reading of a whole list answers.
 use Rattle.std.specs.Prelude.{◌≡◌, List, [], ◌∷◌, ◌++◌}
 use Rattle.carol_grammar.specs.Rule.{Rule, Grammar}
 use Rattle.carol_grammar.specs.Sentence.{IsSentence, Begins}

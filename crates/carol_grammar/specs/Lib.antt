@@ -4,4 +4,3 @@ pub mod Sentence
 pub mod Reading
 pub mod Sound
 pub mod Found
-pub mod Brackets

@@ -1,10 +1,11 @@
+-- Reading a list of tokens by a rule, with a look at the next token alone.
 use Rattle.std.specs.Prelude.{ℕ, zero, suc, Bool, true, false, cond, List, [], ◌∷◌, ◌++◌, Some, None}
 use Rattle.carol_grammar.specs.Sets.{has}
 use Rattle.carol_grammar.specs.Rule.{Rule, Grammar, upper}
 use Rattle.carol_grammar.specs.Rule.Rule.{token, both, gives, either, perhaps, many, begins, deeper}
 
--- What reading a list of tokens gives: a value and the tokens after it, or the tokens from the first on with which
--- nothing goes on.
+-- What reading a list of tokens gives: a value and the tokens after it, or the tokens from the
+-- first on with which nothing goes on.
 pub data Reading (T A : Type 0) : Type 0 where
   got : A → List T → Reading T A
   stuck : List T → Reading T A

@@ -1,7 +1,8 @@
+-- Rules and grammars, for tokens and values of any type.
 use Rattle.std.specs.Prelude.{ℕ, List, Option}
 
--- A rule of a grammar: which lists of tokens are its sentences, and the value of each. T are the tokens, and V
--- names the rules that reach themselves, whose values are those of Value.
+-- A rule of a grammar: which lists of tokens are its sentences, and the value of each. T are the
+-- tokens, and V names the rules that reach themselves, whose values are those of Value.
 pub data Rule (T V : Type 0) (Value : V → Type 0) : Type 0 → Type 1 where
   -- one token, of one of these kinds
   token : {A : Type 0} → List ℕ → (T → A) → Rule T V Value A
@@ -17,9 +18,10 @@ pub data Rule (T V : Type 0) (Value : V → Type 0) : Type 0 → Type 1 where
   -- a rule that reaches itself, one level deeper
   deeper : (v : V) → Rule T V Value (Value v)
 
--- A grammar: the kind of a token, a token of each kind, and the rules that reach themselves. Of each of these the
--- kinds that it begins with, those that may go on after a sentence of it as a part of it, its sentences at the lowest
--- level, and those that stand beside them at each level above.
+-- A grammar: the kind of a token, a token of each kind, and the rules that reach themselves. Of
+-- each of these the kinds that it begins with, those that may go on after a sentence of it as a
+-- part of it, its sentences at the lowest level, and those that stand beside them at each level
+-- above.
 pub record Grammar (T V : Type 0) (Value : V → Type 0) : Type 1 where
   pub kind : T → ℕ
   pub sample : ℕ → T

@@ -1,3 +1,4 @@
+-- Which lists of tokens are sentences of a rule, and with which values.
 use Rattle.std.specs.Prelude.{◌≡◌, ℕ, zero, suc, true, ◌⊎◌, List, [], ◌∷◌, ◌++◌, Option, Some, None}
 use Rattle.carol_grammar.specs.Sets.{has}
 use Rattle.carol_grammar.specs.Rule.{Rule, Grammar, upper}
@@ -17,7 +18,8 @@ abbrev pub Perhaps : {T A : Type 0} → Language T A → List T → Option A →
 Perhaps L ts None = ts ≡ []
 Perhaps L ts (Some v) = L ts v
 
--- the sentences of a rule whose repetitions have at most n members, where deep says what stands a level deeper
+-- the sentences of a rule whose repetitions have at most n members, where deep says what stands a
+-- level deeper
 abbrev pub Sentence : {T V : Type 0} {Value : V → Type 0} {A : Type 0} → (T → ℕ) → ℕ → ((v : V) → Language T (Value v)) → Rule T V Value A → List T → A → Type 0
 Sentence kind n deep (token ks f) ts v = (t : _) × (ts ≡ t ∷ []) × (has ks (kind t) ≡ true) × (f t ≡ v)
 Sentence kind n deep (both r s) ts v = (x : List _) × (y : List _) × (ts ≡ x ++ y) × Sentence kind n deep r x v.0 × Sentence kind n deep s y v.1

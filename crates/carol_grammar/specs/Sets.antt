@@ -1,6 +1,5 @@
-use Rattle.std.specs.Prelude.{ℕ, Bool, true, false, not, eqb, ◌&&◌, ◌||◌, List, [], ◌∷◌}
-
 -- Sets of kinds of tokens, as lists of numbers.
+use Rattle.std.specs.Prelude.{ℕ, Bool, true, false, not, eqb, ◌&&◌, ◌||◌, List, [], ◌∷◌}
 
 abbrev pub has : List ℕ → ℕ → Bool
 has [] k = false
@@ -15,7 +14,3 @@ within (j ∷ js) ks = has ks j && within js ks
 abbrev pub apart : List ℕ → List ℕ → Bool
 apart [] ks = true
 apart (j ∷ js) ks = not (has ks j) && apart js ks
-
-abbrev pub has_any : List ℕ → Bool
-has_any [] = false
-has_any (k ∷ ks) = true

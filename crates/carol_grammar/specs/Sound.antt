@@ -1,10 +1,9 @@
+-- When a look at the next token decides how to go on.
 use Rattle.std.specs.Prelude.{◌≡◌, ℕ, Bool, true, false, cond, not, ◌&&◌, List, [], ◌∷◌, ◌++◌}
 use Rattle.carol_grammar.specs.Sets.{has, within, apart}
 use Rattle.carol_grammar.specs.Rule.{Rule, Grammar, upper}
 use Rattle.carol_grammar.specs.Rule.Rule.{token, both, gives, either, perhaps, many, begins, deeper}
 use Rattle.carol_grammar.specs.Reading.{may_be_empty, first}
-
--- When a look at the next token decides how to go on.
 
 -- the kinds of a token that may go on after a sentence of the rule, as a part of it
 abbrev pub goes_on : {T V : Type 0} {Value : V → Type 0} {A : Type 0} → Grammar T V Value → Rule T V Value A → List ℕ

@@ -1,5 +1,5 @@
--- Which trees are trees of the grammar: names that are names, numbers within 10^12, and lists that are as long as their
--- rule wants.
+-- Which trees are trees of the grammar: names that are names, numbers within 10^12, and lists that
+-- are as long as their rule wants.
 use Rattle.std.specs.Prelude.{◌≡◌, ◌≤◌, ◌<◌, ◌⊎◌, ◌^◌, ℕ, ◌+◌, ℤ, pos, negsuc, true, false, List, length, IsSome, IsNone, IfSome}
 use Rattle.std.specs.List.{AllByRecursion}
 use Rattle.carol_syntax.specs.declared.places.Ident.{Ident}

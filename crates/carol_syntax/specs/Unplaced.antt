@@ -1,5 +1,5 @@
--- Trees that are equal but for the places that they name: they are equal once every place is the same one. Of a
--- transcript only that there is one counts.
+-- Trees that are equal but for the places that they name: they are equal once every place is the
+-- same one. Of a transcript only that there is one counts.
 use Rattle.std.specs.Prelude.{◌≡◌, map, option_map}
 use Rattle.carol_syntax.specs.declared.places.Span.{Span}
 use Rattle.carol_syntax.specs.declared.places.Ident.{Ident}

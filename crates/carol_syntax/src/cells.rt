@@ -9,7 +9,8 @@ pub enum FieldKind {
     Flag,
 }
 
-/// A cell by itself or in a record, with its initial value, at most 10^12 in absolute value and 0 or 1 for a flag.
+/// A cell by itself or in a record, with its initial value, at most 10^12 in absolute value and 0
+/// or 1 for a flag.
 #[derive(Debug, Drop)]
 pub struct FieldDecl {
     pub kind: FieldKind,

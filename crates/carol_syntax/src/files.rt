@@ -24,7 +24,8 @@ pub struct ProgramDecl {
     pub ops: OpDeclList,
 }
 
-/// A file. `tail` is the offset of the first byte after the transcript's first line, where there is a transcript.
+/// A file. `tail` is the offset of the first byte after the transcript's first line, where there is
+/// a transcript.
 #[derive(Drop)]
 pub struct File {
     pub program: ProgramDecl,

@@ -1,8 +1,9 @@
 //! The tree of a file, as the grammar gives it.
 //!
-//! A list is the kit's `Items`, seen as the list of its items, and a part that leads back to its own type stands in the
-//! kit's `Boxed`, seen as what it holds: so a tree is plain data to a contract. Formulas and bodies reach themselves;
-//! `specs/` has each of them once more as plain data, for definitions that recurse.
+//! A list is the kit's `Items`, seen as the list of its items, and a part that leads back to its
+//! own type stands in the kit's `Boxed`, seen as what it holds: so a tree is plain data to a
+//! contract. Formulas and bodies reach themselves; `specs/` has each of them once more as plain
+//! data, for definitions that recurse.
 #![tactic(auto)]
 
 mod bodies;

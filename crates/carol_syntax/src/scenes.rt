@@ -4,8 +4,8 @@ use sqlite_items::Items;
 /// Arguments, each at most 10^12 in absolute value.
 pub type IntList = Items<i64>;
 
-/// A command of a session: the operation's name, its arguments, and how often it stands. Where the text has no `times`,
-/// that is 1 at the place of the name.
+/// A command of a session: the operation's name, its arguments, and how often it stands. Where the
+/// text has no `times`, that is 1 at the place of the name.
 #[derive(Debug, Drop)]
 pub struct CommandDecl {
     pub name: Ident,
