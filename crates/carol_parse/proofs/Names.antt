@@ -11,8 +11,9 @@ use Rattle.std.proofs.lemmas.List.Folds.{length-prefix_len}
 use Rattle.std.proofs.lemmas.List.Sums.{take_while-cons}
 use Rattle.carol_text.specs.Number.{number_at, starts_with_digit}
 use Rattle.carol_syntax.specs.declared.places.Span.{Span}
-use Rattle.carol_syntax.specs.Shape.{IsName, largest}
-use Rattle.carol_syntax.specs.Words.{is_small_letter, is_word_byte, is_word, is_keyword, longest_name}
+use Rattle.carol_syntax.specs.Limits.{largest, longest_name}
+use Rattle.carol_syntax.specs.Shape.{IsName}
+use Rattle.carol_syntax.specs.Words.{is_small_letter, is_word_byte, is_word, is_keyword}
 use Rattle.carol_syntax_tokens.specs.declared.kind.Kind.{Kind}
 use Rattle.carol_syntax_tokens.specs.declared.kind.Kind.TheVariants as k
 use Rattle.carol_syntax_tokens.specs.declared.found.Found.{Found}

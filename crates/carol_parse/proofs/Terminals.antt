@@ -3,11 +3,12 @@ use Rattle.std.proofs.Common.{◌≡◌, ℕ, zero, suc, ◌≤◌, ◌⊎◌, B
 use Rattle.std.proofs.lemmas.Bool.Decides.{nat_tests}
 use Rattle.std.specs.Prelude.{nat_le, neg_ℤ}
 use Rattle.carol_grammar.specs.Sets.{has}
-use Rattle.carol_syntax.specs.Shape.{IsLiteral, IsWhole, IsName, IsNumber, largest}
+use Rattle.carol_syntax.specs.Limits.{largest}
+use Rattle.carol_syntax.specs.Shape.{IsLiteral, IsWhole, IsName, IsNumber}
 use Rattle.carol_syntax_tokens.specs.declared.kind.Kind.{Kind}
 use Rattle.carol_syntax_tokens.specs.declared.kind.Kind.TheVariants as k
 use Rattle.carol_syntax_tokens.specs.declared.lexeme.Lexeme.{Lexeme}
-use Rattle.carol_syntax_rules.specs.Terminals.{number_of, class_of, numeral, greatest}
+use Rattle.carol_syntax_rules.specs.Terminals.{number_of, class_of, numeral}
 use Rattle.carol_syntax_rules.specs.Rules.{numbers, name, number, positive, num, int, bit}
 use Rattle.carol_parse.proofs.Holds.{Holds, hold_token, hold_gives, hold_either, hold_behind}
 
@@ -22,7 +23,7 @@ no_name : (n : ℕ) → has names (numeral n) ≡ false
 unfolding number_of
 no_name zero = refl
 no_name (suc zero) = refl
-no_name (suc (suc n)) = elim (nat_le (suc (suc n)) greatest) as (λ b. has names (cond b 102 103) ≡ false) [ true ↦ refl | false ↦ refl ]
+no_name (suc (suc n)) = elim (nat_le (suc (suc n)) largest) as (λ b. has names (cond b 102 103) ≡ false) [ true ↦ refl | false ↦ refl ]
 
 named : (kind : Kind) → has names (number_of kind) ≡ true → kind ≡ k.Name
 unfolding number_of
@@ -46,9 +47,9 @@ no_number _ = refl
 numeral_small : (n : ℕ) → has numbers (numeral n) ≡ true → n ≤ largest
 numeral_small zero h = omega arith
 numeral_small (suc zero) h = omega arith
-numeral_small (suc (suc n)) h = go (nat_le (suc (suc n)) greatest) refl h
+numeral_small (suc (suc n)) h = go (nat_le (suc (suc n)) largest) refl h
   where
-    go : (b : Bool) → nat_le (suc (suc n)) greatest ≡ b → has numbers (cond b 102 103) ≡ true → suc (suc n) ≤ largest
+    go : (b : Bool) → nat_le (suc (suc n)) largest ≡ b → has numbers (cond b 102 103) ≡ true → suc (suc n) ≤ largest
     go true e h = grind (arith, nat_tests)
     go false e h = absurd cc
 
@@ -83,7 +84,7 @@ no_larger false = refl
 bit_by : (b : Bool) (kind : Kind) (n : ℕ) → has below_two (cond b (numeral n) (number_of kind)) ≡ true → IsBit (pos n)
 bit_by true kind zero h = inl refl
 bit_by true kind (suc zero) h = inr refl
-bit_by true kind (suc (suc n)) h = absurd (cc (no_larger (nat_le (suc (suc n)) greatest), h))
+bit_by true kind (suc (suc n)) h = absurd (cc (no_larger (nat_le (suc (suc n)) largest), h))
 bit_by false kind n h = absurd (cc (no_digit kind, h))
 
 bit_class : (l : Lexeme) → has below_two (class_of l) ≡ true → IsBit (pos l.value)

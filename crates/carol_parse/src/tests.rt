@@ -1,11 +1,12 @@
 ghost use Rattle.std.specs.Prelude.{◌≤◌, ◌<◌, ◌+◌, length};
+ghost use Rattle.carol_syntax.specs.Limits.{most_text_bytes};
 
 use crate::{TextError, TextLimit, parse, print};
 use std::alloc::{AllocError, Global};
 
 // What a text is answered: its place, the number of a limit with line 0, or line and column 0 where it is read.
 fn answer(alloc: Global, text: &[u8]) -> Result<(u32, u32), AllocError>
-    requires { length text.now ≤ 67_108_864 }
+    requires { length text.now ≤ most_text_bytes }
 {
     match parse(alloc, text) {
         Ok(_file) => Ok((0, 0)),
@@ -107,7 +108,7 @@ fn limits(rt: HostRuntime) -> Result<(), AllocError> {
 
 // The canonical text of what a text is read as.
 fn printed(alloc: Global, text: &str) -> Result<Vec<u8>, AllocError>
-    requires { length text.now ≤ 67_108_864 }
+    requires { length text.now ≤ most_text_bytes }
 {
     match parse(alloc, text.as_bytes()) {
         Ok(file) => print(alloc, &file),

@@ -1,6 +1,7 @@
 ghost use Rattle.std.specs.Prelude.{◌≡◌, ◌≤◌, length, Err, IfOk};
 ghost use Rattle.carol_grammar.specs.Reading.{Reading, ended};
 ghost use Rattle.carol_syntax.specs.Files.{FileTree, file_tree};
+ghost use Rattle.carol_syntax.specs.Limits.{most_text_bytes};
 ghost use Rattle.carol_syntax.specs.Shape.{IsFile};
 ghost use Rattle.carol_syntax_tokens.specs.declared.lexeme.Lexeme.{Lexeme};
 ghost use Rattle.carol_syntax_meaning.specs.Outcome.{tail_of, is_broken};
@@ -82,7 +83,7 @@ fn tell(text: &Lexemes, limit: Option<TextLimit>, read: Read<'_, File>) -> Resul
 /// early. `TooLarge` is the first limit that is passed; where both stand the earlier place decides, and `Bad` at the same
 /// one.
 pub fn parse(alloc: Global, bytes: &[u8]) -> Result<File, TextError>
-    requires { length bytes.now ≤ 67_108_864 }
+    requires { length bytes.now ≤ most_text_bytes }
     ensures means { IsMeant bytes.now result }
     ensures only { IsOnlyMeant bytes.now result }
     ensures shape { IfOk result (λ file. IsFile (file_tree file)) }

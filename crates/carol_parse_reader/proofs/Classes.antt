@@ -8,7 +8,8 @@ use Rattle.carol_syntax_tokens.specs.declared.kind.Kind.{Kind}
 use Rattle.carol_syntax_tokens.specs.declared.kind.Kind.TheVariants as k
 use Rattle.carol_syntax_tokens.specs.contracts.Kind.{the_type}
 use Rattle.carol_syntax_tokens.specs.declared.lexeme.Lexeme.{Lexeme}
-use Rattle.carol_syntax_rules.specs.Terminals.{class_of, number_of, numeral, greatest}
+use Rattle.carol_syntax.specs.Limits.{largest}
+use Rattle.carol_syntax_rules.specs.Terminals.{class_of, number_of, numeral}
 use Rattle.carol_syntax_rules.specs.Rules.{numbers}
 use Rattle.carol_parse_reader.specs.Reads.{is_within}
 use denote.Enum.Declared.{rowss, tag_of}
@@ -35,7 +36,7 @@ large_either false = omega arith
 numeral_large : (n : ℕ) → 100 ≤ numeral n
 numeral_large zero = omega arith
 numeral_large (suc zero) = omega arith
-numeral_large (suc (suc n)) = large_either (nat_le (suc (suc n)) greatest)
+numeral_large (suc (suc n)) = large_either (nat_le (suc (suc n)) largest)
 
 no_more : (b : Bool) → b ≡ (b || false)
 no_more true = refl
@@ -59,20 +60,20 @@ class_is l kind h = class_by (eqb (tag_of the_type l.kind) 1) (tag_of the_type l
 none_of : (a : ℕ) → a < 100 → has (100 ∷ 101 ∷ 102 ∷ []) a ≡ false
 none_of a h = grind (arith, nat_tests)
 
-numbers_by : (b : Bool) (a v : ℕ) → a < 100 → has numbers (cond b (numeral v) a) ≡ (b && nat_le v greatest)
+numbers_by : (b : Bool) (a v : ℕ) → a < 100 → has numbers (cond b (numeral v) a) ≡ (b && nat_le v largest)
 numbers_by true a zero h = refl
 numbers_by true a (suc zero) h = refl
-numbers_by true a (suc (suc n)) h = large (nat_le (suc (suc n)) greatest)
+numbers_by true a (suc (suc n)) h = large (nat_le (suc (suc n)) largest)
   where
     large : (c : Bool) → has numbers (cond c 102 103) ≡ c
     large true = refl
     large false = refl
 numbers_by false a v h = grind (arith, nat_tests)
 
-positive_by : (b : Bool) (a v : ℕ) → a < 100 → has (101 ∷ 102 ∷ []) (cond b (numeral v) a) ≡ (b && (nat_le 1 v && nat_le v greatest))
+positive_by : (b : Bool) (a v : ℕ) → a < 100 → has (101 ∷ 102 ∷ []) (cond b (numeral v) a) ≡ (b && (nat_le 1 v && nat_le v largest))
 positive_by true a zero h = refl
 positive_by true a (suc zero) h = refl
-positive_by true a (suc (suc n)) h = large (nat_le (suc (suc n)) greatest) (nat_le 1 (suc (suc n))) (grind (arith, nat_tests))
+positive_by true a (suc (suc n)) h = large (nat_le (suc (suc n)) largest) (nat_le 1 (suc (suc n))) (grind (arith, nat_tests))
   where
     large : (c d : Bool) → d ≡ true → has (101 ∷ 102 ∷ []) (cond c 102 103) ≡ (d && c)
     large true true e = refl
@@ -84,7 +85,7 @@ positive_by false a v h = grind (arith, nat_tests)
 digit_by : (b : Bool) (a v : ℕ) → a < 100 → has (100 ∷ 101 ∷ []) (cond b (numeral v) a) ≡ (b && nat_le v 1)
 digit_by true a zero h = refl
 digit_by true a (suc zero) h = refl
-digit_by true a (suc (suc n)) h = large (nat_le (suc (suc n)) greatest) (nat_le (suc (suc n)) 1) (grind (arith, nat_tests))
+digit_by true a (suc (suc n)) h = large (nat_le (suc (suc n)) largest) (nat_le (suc (suc n)) 1) (grind (arith, nat_tests))
   where
     large : (c d : Bool) → d ≡ false → has (100 ∷ 101 ∷ []) (cond c 102 103) ≡ d
     large true true e = sym e
@@ -98,12 +99,12 @@ digit_by false a v h = grind (arith, nat_tests)
 least_zero : (b c : Bool) (v : ℕ) → (b && (nat_le 0 v && c)) ≡ (b && c)
 least_zero b c v = let e : nat_le 0 v ≡ true = grind (arith, nat_tests) in ap (λ d. b && (d && c)) e
 
-pub numbers_within : (ts : List Lexeme) → is_within 0 greatest ts ≡ next_in class_of numbers ts
+pub numbers_within : (ts : List Lexeme) → is_within 0 largest ts ≡ next_in class_of numbers ts
 unfolding class_of number_of
 numbers_within [] = refl
-numbers_within (l ∷ ls) = least_zero (sameb the_type l.kind k.Number) (nat_le l.value greatest) l.value ∙ sym (numbers_by (sameb the_type l.kind k.Number) (tag_of the_type l.kind) l.value (few_kinds l.kind))
+numbers_within (l ∷ ls) = least_zero (sameb the_type l.kind k.Number) (nat_le l.value largest) l.value ∙ sym (numbers_by (sameb the_type l.kind k.Number) (tag_of the_type l.kind) l.value (few_kinds l.kind))
 
-pub positive_within : (ts : List Lexeme) → is_within 1 greatest ts ≡ next_in class_of (101 ∷ 102 ∷ []) ts
+pub positive_within : (ts : List Lexeme) → is_within 1 largest ts ≡ next_in class_of (101 ∷ 102 ∷ []) ts
 unfolding class_of number_of
 positive_within [] = refl
 positive_within (l ∷ ls) = sym (positive_by (sameb the_type l.kind k.Number) (tag_of the_type l.kind) l.value (few_kinds l.kind))

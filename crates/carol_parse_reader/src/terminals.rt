@@ -1,14 +1,15 @@
-ghost use Rattle.std.specs.Prelude.{◌≡◌, ◌≢◌, ◌≤◌, ◌^◌, ◌∷◌, [], true, map, ℕ, List, IfOk};
+ghost use Rattle.std.specs.Prelude.{◌≡◌, ◌≢◌, ◌≤◌, ◌∷◌, [], true, map, ℕ, List, IfOk};
 ghost use Rattle.std.specs.List.{AllByRecursion};
 ghost use Rattle.carol_grammar.specs.Reading.{next_in, read_token};
+ghost use Rattle.carol_syntax.specs.Limits.{largest};
 ghost use Rattle.carol_syntax_tokens.specs.declared.kind.Kind.TheVariants as kinds;
 ghost use Rattle.carol_syntax_rules.specs.Terminals.{class_of, number_of};
 ghost use Rattle.carol_syntax_rules.specs.Rules as rules;
 ghost use Rattle.carol_parse_reader.specs.Reads.{Reads, is_within, read_by};
 
 use crate::reader::{Halt, Read, Reader};
-use carol_syntax::{Ident, Num, Word};
-use carol_syntax_tokens::{Kind, LARGEST, Lexeme};
+use carol_syntax::{Ident, LARGEST, Num, Word};
+use carol_syntax_tokens::{Kind, Lexeme};
 
 /// Whether the next token is this word or symbol.
 #[tactic(auto, using(crate::proofs::Classes::class_is))]
@@ -78,7 +79,7 @@ pub fn word<'a>(reader: &Reader<'_>, tokens: &'a [Lexeme], kind: Kind) -> Read<'
 /// One number.
 pub fn number<'a>(reader: &Reader<'_>, tokens: &'a [Lexeme]) -> Read<'a, Lexeme>
     ensures reads { Reads (λ l. l) result (read_by reader.now rules.number tokens.now) }
-    ensures small { IfOk result (λ x. x.0.value ≤ 10 ^ 12) }
+    ensures small { IfOk result (λ x. x.0.value ≤ largest) }
 {
     taken(tokens, next_within(tokens, 0, LARGEST))
 }
@@ -86,7 +87,7 @@ pub fn number<'a>(reader: &Reader<'_>, tokens: &'a [Lexeme]) -> Read<'a, Lexeme>
 /// A number that isn't 0.
 pub fn positive<'a>(reader: &Reader<'_>, tokens: &'a [Lexeme]) -> Read<'a, Lexeme>
     ensures reads { Reads (λ l. l) result (read_by reader.now rules.positive tokens.now) }
-    ensures small { IfOk result (λ x. x.0.value ≤ 10 ^ 12) }
+    ensures small { IfOk result (λ x. x.0.value ≤ largest) }
 {
     taken(tokens, next_within(tokens, 1, LARGEST))
 }

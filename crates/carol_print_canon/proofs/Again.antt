@@ -7,7 +7,7 @@ use Rattle.std.proofs.lemmas.List.{append-nil, drop-drop, drop_at}
 use Rattle.std.proofs.Math.Seq.{take-append_seam, drop-append_seam}
 use Rattle.carol_text.specs.Number.{number_at}
 use Rattle.carol_syntax.specs.Words.{is_small_letter, is_word_byte}
-use Rattle.carol_syntax.specs.Shape.{largest}
+use Rattle.carol_syntax.specs.Limits.{largest}
 use Rattle.carol_syntax_tokens.specs.declared.kind.Kind.{Kind}
 use Rattle.carol_syntax_tokens.specs.declared.lexeme.Lexeme.{Lexeme}
 use Rattle.carol_syntax_tokens.specs.declared.lexeme.Stop.{Stop}

@@ -8,7 +8,7 @@ use Rattle.std.proofs.lemmas.List.{append-nil}
 use Rattle.carol_text.specs.Number.{number_at, starts_with_digit}
 use Rattle.carol_text.proofs.Laws.{number_takes, number_again, decimal_first}
 use Rattle.carol_syntax.specs.Words.{is_small_letter, is_word_byte}
-use Rattle.carol_syntax.specs.Shape.{largest}
+use Rattle.carol_syntax.specs.Limits.{largest}
 use Rattle.carol_syntax_tokens.specs.declared.kind.Kind.{Kind}
 use Rattle.carol_syntax_tokens.specs.declared.kind.Kind.TheVariants as k
 use Rattle.carol_syntax_tokens.specs.declared.found.Found.{Found}

@@ -4,8 +4,9 @@ use Rattle.std.specs.Prelude.{not, ◌&&◌, ◌==◌}
 use Rattle.std.specs.Fmt.{decimal}
 use Rattle.std.specs.List.{AllByRecursion}
 use Rattle.carol_syntax.specs.declared.places.Ident.{Ident}
-use Rattle.carol_syntax.specs.Words.{is_word_byte, is_word, is_keyword, longest_name}
-use Rattle.carol_syntax.specs.Shape.{largest, IsName}
+use Rattle.carol_syntax.specs.Limits.{largest, longest_name}
+use Rattle.carol_syntax.specs.Words.{is_word_byte, is_word, is_keyword}
+use Rattle.carol_syntax.specs.Shape.{IsName}
 use Rattle.carol_syntax_tokens.specs.declared.kind.Kind.{Kind}
 use Rattle.carol_syntax_tokens.specs.declared.kind.Kind.TheVariants as k
 use Rattle.carol_print_canon.specs.Pieces.{Piece, text_of, IsSpelled, AreLaidBefore, ends, ends_before, codes_of, is_fixed}

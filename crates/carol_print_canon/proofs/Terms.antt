@@ -9,7 +9,8 @@ use Rattle.carol_syntax.specs.declared.formulas.ValueKind.TheVariants as way
 use Rattle.carol_syntax.specs.declared.formulas.ValueDecl.{ValueDecl}
 use Rattle.carol_syntax.specs.declared.formulas.ProductDecl.{ProductDecl}
 use Rattle.carol_syntax.specs.declared.formulas.TermDecl.{TermDecl}
-use Rattle.carol_syntax.specs.Shape.{largest, IsName, IsLiteral, IsWhole, HasParts, IsValue, IsProduct, IsTerm}
+use Rattle.carol_syntax.specs.Limits.{largest}
+use Rattle.carol_syntax.specs.Shape.{IsName, IsLiteral, IsWhole, HasParts, IsValue, IsProduct, IsTerm}
 use Rattle.carol_syntax_tokens.specs.declared.kind.Kind.TheVariants as k
 use Rattle.carol_print_canon.specs.Pieces.{Space, text_of, AreLaidBefore, ends_before}
 use Rattle.carol_print_canon.specs.Canonical.{Pieces, opening, closing, name, number, int, after_dots, path, sized, value_as, value, product_of, product, added_sign, first_sign, more_products, sum_of, term}

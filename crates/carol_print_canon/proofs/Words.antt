@@ -9,8 +9,8 @@ use Rattle.std.proofs.lemmas.Bool.{and_parts, le-ltb, not-true, cases_Bool, both
 use Rattle.std.proofs.lemmas.Slice.Eq.{bytes_eq-Decides}
 use Rattle.std.proofs.lemmas.List.Folds.{prefix_len-append, length-prefix_len}
 use Rattle.std.proofs.Math.Seq.{take-append_seam, take-length}
-use Rattle.carol_syntax.specs.Words.{is_small_letter, is_word_byte, is_word, is_keyword, longest_name}
-use Rattle.carol_syntax.specs.Shape.{largest}
+use Rattle.carol_syntax.specs.Limits.{largest, longest_name}
+use Rattle.carol_syntax.specs.Words.{is_small_letter, is_word_byte, is_word, is_keyword}
 use Rattle.carol_syntax_tokens.specs.declared.kind.Kind.{Kind}
 use Rattle.carol_syntax_tokens.specs.declared.kind.Kind.TheVariants as k
 use Rattle.carol_syntax_tokens.specs.declared.found.Found.{Found}

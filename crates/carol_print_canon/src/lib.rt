@@ -2,9 +2,10 @@
 #![tactic(auto)]
 
 ghost use Rattle.std.specs.Prelude.{◌≡◌, ◌≤◌, ℕ, true, false, List, ◌++◌, length, decimal};
-ghost use Rattle.carol_syntax.specs.Words.{is_word, is_keyword, longest_name};
+ghost use Rattle.carol_syntax.specs.Limits.{largest, longest_name};
+ghost use Rattle.carol_syntax.specs.Words.{is_word, is_keyword};
 ghost use Rattle.carol_syntax.specs.Files.{FileTree};
-ghost use Rattle.carol_syntax.specs.Shape.{IsFile, largest};
+ghost use Rattle.carol_syntax.specs.Shape.{IsFile};
 ghost use Rattle.carol_syntax_tokens.specs.declared.kind.Kind.{Kind};
 ghost use Rattle.carol_syntax_tokens.specs.declared.kind.Kind.TheVariants as k;
 ghost use Rattle.carol_syntax_tokens.specs.declared.lexeme.Lexeme.{Lexeme};

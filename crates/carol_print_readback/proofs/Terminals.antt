@@ -9,7 +9,8 @@ use Rattle.carol_syntax.specs.Unplaced.{nowhere, unplaced_name, unplaced_number}
 use Rattle.carol_syntax.specs.Shape.{IsLiteral, IsWhole}
 use Rattle.carol_syntax_tokens.specs.declared.kind.Kind.TheVariants as k
 use Rattle.carol_syntax_tokens.specs.declared.lexeme.Lexeme.{Lexeme}
-use Rattle.carol_syntax_rules.specs.Terminals.{number_of, class_of, numeral, greatest}
+use Rattle.carol_syntax.specs.Limits.{largest}
+use Rattle.carol_syntax_rules.specs.Terminals.{number_of, class_of, numeral}
 use Rattle.carol_syntax_rules.specs.Rules.{numbers, name, number, num, int, bit}
 use Rattle.carol_print_canon.specs.Pieces.{Piece}
 use Rattle.carol_print_canon.specs.Canonical as text
@@ -19,14 +20,14 @@ class_of_number : (l : Lexeme) → l.kind ≡ k.Number → class_of l ≡ numera
 unfolding class_of number_of
 class_of_number l e = rw e refl
 
-any_numeral : (n : ℕ) → n ≤ greatest → has numbers (numeral n) ≡ true
+any_numeral : (n : ℕ) → n ≤ largest → has numbers (numeral n) ≡ true
 any_numeral zero h = refl
 any_numeral (suc zero) h = refl
-any_numeral (suc (suc n)) h = let e : nat_le (suc (suc n)) greatest ≡ true = grind (arith, nat_tests) in rw e refl
+any_numeral (suc (suc n)) h = let e : nat_le (suc (suc n)) largest ≡ true = grind (arith, nat_tests) in rw e refl
 
-positive_numeral : (n : ℕ) → suc n ≤ greatest → has (101 ∷ 102 ∷ []) (numeral (suc n)) ≡ true
+positive_numeral : (n : ℕ) → suc n ≤ largest → has (101 ∷ 102 ∷ []) (numeral (suc n)) ≡ true
 positive_numeral zero h = refl
-positive_numeral (suc n) h = let e : nat_le (suc (suc n)) greatest ≡ true = grind (arith, nat_tests) in rw e refl
+positive_numeral (suc n) h = let e : nat_le (suc (suc n)) largest ≡ true = grind (arith, nat_tests) in rw e refl
 
 -- the class of a number's token is its numeral's
 classed : (ks : List ℕ) (n : ℕ) → has ks (numeral n) ≡ true → (l : Lexeme) → l.kind ≡ k.Number → l.value ≡ n → has ks (class_of l) ≡ true

@@ -1,3 +1,4 @@
+pub mod Limits
 pub mod Formulas
 pub mod Bodies
 pub mod Files

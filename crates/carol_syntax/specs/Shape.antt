@@ -1,6 +1,6 @@
 -- Which trees are trees of the grammar: names that are names, numbers within 10^12, and lists that
 -- are as long as their rule wants.
-use Rattle.std.specs.Prelude.{◌≡◌, ◌≤◌, ◌<◌, ◌⊎◌, ◌^◌, ℕ, ◌+◌, ℤ, pos, negsuc, true, false, List, length, IsSome, IsNone, IfSome}
+use Rattle.std.specs.Prelude.{◌≡◌, ◌≤◌, ◌<◌, ◌⊎◌, ℕ, ◌+◌, ℤ, pos, negsuc, true, false, List, length, IsSome, IsNone, IfSome}
 use Rattle.std.specs.List.{AllByRecursion}
 use Rattle.carol_syntax.specs.declared.places.Ident.{Ident}
 use Rattle.carol_syntax.specs.declared.places.Num.{Num}
@@ -25,14 +25,11 @@ use Rattle.carol_syntax.specs.declared.scenes.SessionDecl.{SessionDecl}
 use Rattle.carol_syntax.specs.declared.scenes.SceneDecl.{SceneDecl}
 use Rattle.carol_syntax.specs.declared.scenes.ScriptLine.{ScriptLine}
 use Rattle.carol_syntax.specs.declared.scenes.ScriptLine.TheVariants.{Go, Gossip, Cut, Join}
-use Rattle.carol_syntax.specs.Words.{is_word, is_keyword, longest_name}
+use Rattle.carol_syntax.specs.Limits.{largest, longest_name}
+use Rattle.carol_syntax.specs.Words.{is_word, is_keyword}
 use Rattle.carol_syntax.specs.Formulas.{FormulaTree, True, False, Not, And, Or, Compare}
 use Rattle.carol_syntax.specs.Bodies.{BodyTree, Return, If}
 use Rattle.carol_syntax.specs.Files.{NamedFormula, OpTree, ProgramTree, FileTree}
-
--- the greatest number of a text
-abbrev pub largest : ℕ
-largest = 10 ^ 12
 
 abbrev pub IsLiteral : ℕ → Type 0
 IsLiteral n = n ≤ largest

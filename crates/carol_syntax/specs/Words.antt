@@ -27,10 +27,6 @@ keywords =
 abbrev pub is_keyword : List ℕ → Bool
 is_keyword word = list_any (bytes_eq word) keywords
 
--- at most this many bytes
-abbrev pub longest_name : ℕ
-longest_name = 64
-
 -- begins with a small letter and goes on with word bytes
 abbrev pub is_word : List ℕ → Bool
 is_word [] = false

@@ -10,6 +10,7 @@ mod bodies;
 mod cells;
 mod files;
 mod formulas;
+mod limits;
 mod operations;
 mod places;
 mod scenes;
@@ -20,6 +21,10 @@ pub use cells::{CellDecl, CellDeclList, FieldDecl, FieldDeclList, FieldKind};
 pub use files::{File, GuardDecl, GuardDeclList, ProgramDecl};
 pub use formulas::{
     FormulaDecl, ProductDecl, ProductDeclList, Sign, TermDecl, ValueDecl, ValueKind,
+};
+pub use limits::{
+    LARGEST, LONGEST_NAME, MOST_BODY_DEPTH, MOST_FORMULA_NODES, MOST_PROGRAM_BYTES,
+    MOST_SCRIPT_LINES, MOST_TEXT_BYTES,
 };
 pub use operations::{OpDecl, OpDeclList, ParamDecl, ParamDeclList};
 pub use places::{Ident, IdentList, Num, Span};

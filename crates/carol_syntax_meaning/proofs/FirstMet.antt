@@ -2,6 +2,7 @@
 use Rattle.std.proofs.Common.{◌≡◌, ℕ, zero, suc, ◌+◌, ◌<◌, ◌≤◌, ◌⊎◌, List, [], ◌∷◌, ◌++◌, length, reverse, take, drop, get_or, sym, ◌∙◌, ap, subst, inl, inr, arith, append_assoc, add-one}
 use Rattle.std.proofs.lemmas.List.{reverse-reverse, reverse-append, length-reverse, get_or_at}
 use Rattle.std.specs.Prelude.{Option, Some, None, MatchOption}
+use Rattle.carol_syntax.specs.Limits.{most_program_bytes}
 use Rattle.carol_syntax_tokens.specs.declared.lexeme.Lexeme.{Lexeme}
 use Rattle.carol_syntax_tokens.specs.Cut.{StandBetween}
 use Rattle.carol_syntax_meaning.specs.declared.limit.TextLimit.{TextLimit}
@@ -120,7 +121,7 @@ past_is BodyDepth bytes list o p = inr p
 past_is ScriptLines bytes list o p = inr p
 
 passes_past : (l : TextLimit) (bytes : List ℕ) (list : List Lexeme) (o : ℕ) → PassesAt l list o → IsPast l bytes list o
-passes_past ProgramBytes bytes list o p = let over : 65_536 < 0 = p.over in absurd (omega arith)
+passes_past ProgramBytes bytes list o p = let over : most_program_bytes < 0 = p.over in absurd (omega arith)
 passes_past FormulaNodes bytes list o p = p
 passes_past BodyDepth bytes list o p = p
 passes_past ScriptLines bytes list o p = p

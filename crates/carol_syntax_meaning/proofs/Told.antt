@@ -7,6 +7,7 @@ use Rattle.carol_grammar.specs.Reading.{Reading}
 use Rattle.carol_grammar.specs.Reading.Reading.{got, stuck}
 use Rattle.carol_grammar.specs.Found.{IsFault, Answers}
 use Rattle.carol_syntax.specs.Files.{FileTree}
+use Rattle.carol_syntax.specs.Limits.{most_program_bytes}
 use Rattle.carol_syntax_tokens.specs.declared.lexeme.Lexeme.{Lexeme}
 use Rattle.carol_syntax_tokens.specs.declared.lexeme.Lexemes.{Lexemes}
 use Rattle.carol_syntax_tokens.specs.declared.place.Place.{Place}
@@ -87,9 +88,9 @@ told_end bytes parts count r b none = record {
 }
 
 -- a word `end` that stands within the bytes
-end_within : (xs : List Lexeme) (t : Lexeme) (more : List Lexeme) → is_end t.kind ≡ true → t.to ≤ 65_536 → ends_within (xs ++ t ∷ more) ≡ true
-end_within [] t more e h = rw e (ap (λ b. b || ends_within more) (le-leb t.to 65_536 h))
-end_within (x ∷ xs) t more e h = or_true (is_end x.kind && nat_le x.to 65_536) (ends_within (xs ++ t ∷ more)) (end_within xs t more e h)
+end_within : (xs : List Lexeme) (t : Lexeme) (more : List Lexeme) → is_end t.kind ≡ true → t.to ≤ most_program_bytes → ends_within (xs ++ t ∷ more) ≡ true
+end_within [] t more e h = rw e (ap (λ b. b || ends_within more) (le-leb t.to most_program_bytes h))
+end_within (x ∷ xs) t more e h = or_true (is_end x.kind && nat_le x.to most_program_bytes) (ends_within (xs ++ t ∷ more)) (end_within xs t more e h)
   where
     or_true : (b c : Bool) → c ≡ true → (b || c) ≡ true
     or_true true c f = refl
@@ -99,7 +100,7 @@ end_within (x ∷ xs) t more e h = or_true (is_end x.kind && nat_le x.to 65_536)
 told_read : (bytes : List ℕ) (parts : Lexemes) (count : ℕ) (f : FileTree) → StandBetween 0 parts.list parts.end.offset → ReachesEnd bytes parts count → IsFileIn bytes parts f → is_broken parts.stop ≡ false → IsRead bytes parts f
 told_read bytes parts count f s r file whole = record { text = record { whole = whole; file = file }; small = small }
   where
-    finished : (o : ℕ) → o ≡ 65_536 → parts.end.offset ≤ o → ends_within parts.list ≡ false → ⊥
+    finished : (o : ℕ) → o ≡ most_program_bytes → parts.end.offset ≤ o → ends_within parts.list ≡ false → ⊥
     finished o at low unfinished =
         let h = file_has_end bytes (tail_of parts.stop) parts.list f file in
         let a = stand_from 0 h.0 h.1 h.2 parts.end.offset (subst (λ (z : List Lexeme). StandBetween 0 z parts.end.offset) h.3 s) in

@@ -1,5 +1,6 @@
 -- What the code keeps of the tokens so far: the counts, and the kinds of the last two.
 use Rattle.std.specs.Prelude.{ℕ, ◌+◌, ◌<◌, ◌≤◌, List, Some}
+use Rattle.carol_syntax.specs.Limits.{most_formula_nodes, most_body_depth, most_script_lines}
 use Rattle.carol_syntax_tokens.specs.declared.kind.Kind.{Kind}
 use Rattle.carol_syntax_tokens.specs.declared.lexeme.Lexeme.{Lexeme}
 use Rattle.carol_syntax_meaning.specs.declared.limit.TextLimit.{TextLimit}
@@ -28,9 +29,9 @@ count_in c ScriptLines = c.lines
 
 -- nothing is over its limit
 pub record IsWithin (c : Counts) : Type 0 where
-  pub nodes_within : c.nodes ≤ 256
-  pub depth_within : c.depth ≤ 64
-  pub lines_within : c.lines ≤ 131_072
+  pub nodes_within : c.nodes ≤ most_formula_nodes
+  pub depth_within : c.depth ≤ most_body_depth
+  pub lines_within : c.lines ≤ most_script_lines
 
 -- the count of this limit is over it, and of none before it in the order
 pub record IsLeastOver (c : Counts) (limit : TextLimit) : Type 0 where

@@ -1,5 +1,6 @@
 -- Which limits a text passes, and where. The counts are over the tokens up to one, the latest first.
 use Rattle.std.specs.Prelude.{◌≡◌, ℕ, ◌+◌, ◌-◌, ◌<◌, ◌≤◌, Bool, true, false, not, ◌&&◌, ◌||◌, nat_le, if◌then◌else◌, ◌⊎◌, List, [], ◌∷◌, ◌++◌, length, reverse, Option, Some, None}
+use Rattle.carol_syntax.specs.Limits.{most_program_bytes, most_formula_nodes, most_body_depth, most_script_lines}
 use Rattle.carol_syntax_tokens.specs.declared.kind.Kind.{Kind}
 use Rattle.carol_syntax_tokens.specs.declared.kind.Kind.TheVariants as k
 use Rattle.carol_syntax_tokens.specs.declared.lexeme.Lexeme.{Lexeme}
@@ -111,10 +112,10 @@ lines (t ∷ before) = lines before + one_if (begins_line t.kind)
 
 -- the most that is allowed
 abbrev pub most : TextLimit → ℕ
-most ProgramBytes = 65_536
-most FormulaNodes = 256
-most BodyDepth = 64
-most ScriptLines = 131_072
+most ProgramBytes = most_program_bytes
+most FormulaNodes = most_formula_nodes
+most BodyDepth = most_body_depth
+most ScriptLines = most_script_lines
 
 -- what is counted against a limit; the tokens count nothing against the first
 abbrev pub counted : TextLimit → List Lexeme → ℕ

@@ -1,8 +1,10 @@
 ghost use Rattle.std.specs.Prelude.{◌≡◌, ◌≤◌, ◌+◌, ◌-◌, ◌^◌, ◌<◌, MatchOption};
+ghost use Rattle.carol_syntax.specs.Limits.{most_formula_nodes};
 ghost use Rattle.carol_syntax_meaning.specs.Limits.{is_name, is_let, is_size, counts_anew, begins_value, weight, nodes_with, depth_with, begins_line};
 ghost use Rattle.carol_syntax_meaning.specs.Counts.{counts_with, IsWithin, IsLeastOver};
 
 use crate::limit::TextLimit;
+use carol_syntax::{MOST_BODY_DEPTH, MOST_FORMULA_NODES, MOST_SCRIPT_LINES};
 use carol_syntax_tokens::Kind;
 
 /// What is counted over the tokens so far, and the kinds of the last two.
@@ -114,7 +116,7 @@ fn starts_line(kind: Kind) -> bool
 }
 
 fn nodes_behind(counts: Counts, kind: Kind) -> u32
-    requires { counts.nodes ≤ 256 }
+    requires { counts.nodes ≤ most_formula_nodes }
     ensures { result ≡ nodes_with counts.nodes kind counts.last counts.second }
 {
     if starts_anew(kind, counts.last, counts.second) {
@@ -141,13 +143,13 @@ pub fn count_one(counts: Counts, kind: Kind) -> Counts
 pub fn least_over(counts: Counts) -> Option<TextLimit>
     ensures { MatchOption result (IsWithin counts) (IsLeastOver counts) }
 {
-    if counts.nodes > 256 {
+    if counts.nodes > MOST_FORMULA_NODES {
         return Some(TextLimit::FormulaNodes);
     }
-    if counts.depth > 64 {
+    if counts.depth > MOST_BODY_DEPTH {
         return Some(TextLimit::BodyDepth);
     }
-    if counts.lines > 131_072 {
+    if counts.lines > MOST_SCRIPT_LINES {
         return Some(TextLimit::ScriptLines);
     }
     None

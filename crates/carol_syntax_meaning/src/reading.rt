@@ -1,10 +1,12 @@
 ghost use Rattle.std.specs.Prelude.{◌≡◌, ◌<◌, ◌≤◌, length, slice_index_or, MatchOption, MatchBool};
+ghost use Rattle.carol_syntax.specs.Limits.{most_program_bytes};
 ghost use Rattle.carol_syntax_tokens.specs.declared.lexeme.Lexeme.{Lexeme};
 ghost use Rattle.carol_syntax_tokens.specs.Cut.{StandBetween};
 ghost use Rattle.carol_syntax_meaning.specs.Limits.{is_end, ends_within, GoesPast, IsFirst};
 ghost use Rattle.carol_syntax_meaning.specs.Reach.{NoByteIsPast, NoTokenPasses, IsFirstMet, NonePast, IsSplit, Reaches};
 
 use crate::limit::{Passed, TextLimit, first_passed};
+use carol_syntax::MOST_PROGRAM_BYTES;
 use carol_syntax_tokens::{Kind, Lexeme, Lexemes};
 
 /// A limit that is passed, and the offset of the token or byte that passes it.
@@ -34,7 +36,7 @@ fn ends_early(tokens: &[Lexeme]) -> bool
     ensures { result ≡ ends_within tokens.now }
 {
     for token in tokens {
-        if ends_program(token.kind) && token.to <= 65_536 {
+        if ends_program(token.kind) && token.to <= MOST_PROGRAM_BYTES {
             return true;
         }
     }
@@ -43,9 +45,10 @@ fn ends_early(tokens: &[Lexeme]) -> bool
 
 // Whether the program part goes on where its bytes are used up.
 fn is_too_long(tokens: &[Lexeme], bytes: &[u8]) -> bool
-    ensures { MatchBool result (GoesPast bytes.now tokens.now 65_536) (NoByteIsPast bytes.now tokens.now) }
+    ensures { MatchBool result (GoesPast bytes.now tokens.now most_program_bytes)
+        (NoByteIsPast bytes.now tokens.now) }
 {
-    if bytes.len() <= 65_536 {
+    if bytes.len() <= MOST_PROGRAM_BYTES as usize {
         return false;
     }
     !ends_early(tokens)
@@ -85,10 +88,10 @@ fn first_met(text: &Lexemes, bytes: &[u8]) -> Option<Met>
         return met;
     }
     match met {
-        Some(met) if met.at < 65_536 => Some(met),
+        Some(met) if met.at < MOST_PROGRAM_BYTES => Some(met),
         _ => Some(Met {
             limit: TextLimit::ProgramBytes,
-            at: 65_536,
+            at: MOST_PROGRAM_BYTES,
         }),
     }
 }

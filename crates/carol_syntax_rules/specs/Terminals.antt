@@ -1,4 +1,5 @@
-use Rattle.std.specs.Prelude.{ℕ, zero, suc, ◌-◌, ◌^◌, cond, nat_le, eqb, List, [], ◌∷◌}
+use Rattle.std.specs.Prelude.{ℕ, zero, suc, ◌-◌, cond, nat_le, eqb, List, [], ◌∷◌}
+use Rattle.carol_syntax.specs.Limits.{largest}
 use Rattle.carol_syntax_tokens.specs.declared.kind.Kind.{Kind}
 use Rattle.carol_syntax_tokens.specs.declared.kind.Kind.TheVariants as k
 use Rattle.carol_syntax_tokens.specs.contracts.Kind.{the_type}
@@ -11,14 +12,10 @@ use denote.Enum.Declared.{tag_of}
 unfoldable pub number_of : Kind → ℕ
 number_of kind = tag_of the_type kind
 
--- the greatest number that a token may be
-abbrev pub greatest : ℕ
-greatest = 10 ^ 12
-
 abbrev pub numeral : ℕ → ℕ
 numeral zero = 100
 numeral (suc zero) = 101
-numeral (suc (suc n)) = cond (nat_le (suc (suc n)) greatest) 102 103
+numeral (suc (suc n)) = cond (nat_le (suc (suc n)) largest) 102 103
 
 unfoldable pub class_of : Lexeme → ℕ
 class_of l = cond (eqb (number_of l.kind) (number_of k.Number)) (numeral l.value) (number_of l.kind)

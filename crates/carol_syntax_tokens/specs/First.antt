@@ -2,8 +2,8 @@
 use Rattle.std.specs.Prelude.{ℕ, ◌-◌, Bool, false, ◌==◌, nat_lt, if◌then◌else◌, List, [], ◌∷◌, length, Option, Some, None, take_while, Result, Ok, Err}
 use Rattle.std.specs.Char.{is_ascii_digit}
 use Rattle.carol_text.specs.Number.{number_at, starts_with_digit}
-use Rattle.carol_syntax.specs.Words.{is_small_letter, is_word_byte, longest_name}
-use Rattle.carol_syntax.specs.Shape.{largest}
+use Rattle.carol_syntax.specs.Limits.{largest, longest_name}
+use Rattle.carol_syntax.specs.Words.{is_small_letter, is_word_byte}
 use Rattle.carol_syntax_tokens.specs.declared.kind.Kind.{Kind}
 use Rattle.carol_syntax_tokens.specs.declared.kind.Kind.TheVariants as k
 use Rattle.carol_syntax_tokens.specs.declared.found.Found.{Found}

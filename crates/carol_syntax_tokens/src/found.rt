@@ -2,12 +2,13 @@ ghost use Rattle.std.specs.Prelude.{◌≡◌, ◌+◌, ◌<◌, ◌≤◌, ◌^
 ghost use Rattle.std.specs.Char.{is_ascii_digit};
 ghost use Rattle.carol_text.specs.Number.{number_at};
 ghost use Rattle.carol_syntax.specs.Words.{is_word_byte, is_small_letter};
-ghost use Rattle.carol_syntax.specs.Shape.{largest};
+ghost use Rattle.carol_syntax.specs.Limits.{largest};
 ghost use Rattle.carol_syntax_tokens.specs.First.{first_token, judged_word, judged_number, first_symbol, with_equals, starts_word};
 ghost use Rattle.std.specs.Prelude.{take_while};
 ghost use Rattle.std.specs.List.{prefix_len};
 
 use crate::kind::{Kind, word_kind};
+use carol_syntax::{LARGEST, LONGEST_NAME};
 
 /// The token at the front of a text: what it is, the value of a number and 0 of any other, and how many bytes it has.
 #[derive(Clone, Copy, Debug, PartialEq, Eq)]
@@ -16,9 +17,6 @@ pub struct Found {
     pub value: u64,
     pub length: u32,
 }
-
-/// The greatest number of a text.
-pub const LARGEST: u64 = 1_000_000_000_000;
 
 /// The token that the text begins with, the longest one. None where its first byte begins no token, and where it is empty.
 #[tactic(auto, unfolding(crate::specs::First::first_token))]
@@ -74,7 +72,7 @@ fn word(bytes: &[u8]) -> Option<Found>
     ensures within { IfSome result (λ f. f.length ≤ length bytes.now) }
 {
     let (run, _) = bytes.split_at(run_length(bytes));
-    if run.len() > 64 {
+    if run.len() > LONGEST_NAME {
         return None;
     }
     Some(Found {

@@ -1,4 +1,5 @@
 ghost use Rattle.std.specs.Prelude.{◌≡◌, ◌+◌, ◌<◌, ◌≤◌, ◌^◌, ◌-◌, ℕ, length, List, IfOk};
+ghost use Rattle.carol_syntax.specs.Limits.{most_text_bytes};
 ghost use Rattle.carol_syntax_tokens.specs.Place.{start, place_over, span_of};
 ghost use Rattle.carol_syntax_tokens.specs.Cut.{Cut, Stops, StandBetween, is_transcript, lexeme_at, stop_of_tail};
 ghost use Rattle.carol_syntax_tokens.specs.First.{first_token};
@@ -100,7 +101,7 @@ pub fn one_cut()
 
 /// Cuts a text into its tokens, the longest one each time.
 pub fn cut(alloc: Global, bytes: &[u8]) -> Result<Lexemes, AllocError>
-    requires { length bytes.now ≤ 67_108_864 }
+    requires { length bytes.now ≤ most_text_bytes }
     ensures cut { IfOk result (λ all. Cut start bytes.now all.list all.stop all.end) }
     ensures only { IfOk result (λ all. (list : List Lexeme) (stop : Stop) (end : Place) → Cut start bytes.now list stop end → (list ≡ all.list) × (stop ≡ all.stop) × (end ≡ all.end)) }
     ensures ordered { IfOk result (λ all. StandBetween 0 all.list all.end.offset) }

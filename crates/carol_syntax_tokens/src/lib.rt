@@ -9,7 +9,7 @@ mod public;
 #[cfg(test)]
 mod tests;
 
-pub use found::{Found, LARGEST, first};
+pub use found::{Found, first};
 pub use kind::{Kind, word_kind};
 pub use lexeme::{Lexeme, Lexemes, Stop, cut, one_cut};
 pub use place::{Place, over};

@@ -1,5 +1,6 @@
 ghost use Rattle.std.specs.Prelude.{◌≡◌, ◌≤◌, ◌++◌, length, map, IfOk};
 ghost use Rattle.std.proofs.Common.{drop};
+ghost use Rattle.carol_syntax.specs.Limits.{most_text_bytes};
 ghost use Rattle.carol_syntax_tokens.specs.Tokens.{kind_of, token_of, AreTokens, AreOnly};
 
 use crate::kind::Kind;
@@ -89,7 +90,7 @@ fn all_tokens(alloc: Global, lexemes: &[Lexeme]) -> Result<TokenList, AllocError
 /// The tokens of a text in order, the longest one each time, with spaces and comments left out. `Bad` has the first byte
 /// that begins no token or, behind the word `transcript`, the place where its line does not end.
 pub fn tokens(alloc: Global, bytes: &[u8]) -> Result<Lexed, AllocError>
-    requires { length bytes.now ≤ 67_108_864 }
+    requires { length bytes.now ≤ most_text_bytes }
     ensures cut { IfOk result (λ lexed. AreTokens bytes.now lexed.list lexed.stop) }
     ensures only { IfOk result (λ lexed. AreOnly bytes.now lexed.list lexed.stop) }
 {

@@ -1,4 +1,5 @@
 use Rattle.std.proofs.Common.{◌≡◌, ◌+◌, ◌≤◌, length, List, ◌++◌}
+use Rattle.carol_syntax.specs.Limits.{most_text_bytes}
 use Rattle.carol_syntax_tokens.specs.declared.lexeme.Lexeme.{Lexeme}
 use Rattle.carol_syntax_tokens.specs.declared.lexeme.Stop.{Stop}
 use Rattle.carol_syntax_tokens.specs.declared.place.Place.{Place}
@@ -12,7 +13,7 @@ invariant-loop-found l = record {
   ordered : StandBetween 0 l.list l.at.offset;
   counted : IsCounted l.at;
   offset : l.at.offset + length l.rest ≡ length l.bytes;
-  bound : length l.bytes ≤ 67_108_864;
+  bound : length l.bytes ≤ most_text_bytes;
 }
 
 abbrev pub decreases-loop-found : goal.decreases-loop-found
