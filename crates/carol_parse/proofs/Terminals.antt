@@ -8,22 +8,19 @@ use Rattle.carol_syntax.specs.Shape.{IsLiteral, IsWhole, IsName, IsNumber}
 use Rattle.carol_syntax_tokens.specs.declared.kind.Kind.{Kind}
 use Rattle.carol_syntax_tokens.specs.declared.kind.Kind.TheVariants as k
 use Rattle.carol_syntax_tokens.specs.declared.lexeme.Lexeme.{Lexeme}
-use Rattle.carol_syntax_rules.specs.Terminals.{number_of, class_of, numeral}
-use Rattle.carol_syntax_rules.specs.Rules.{numbers, name, number, positive, num, int, bit}
+use Rattle.carol_syntax_rules.specs.Terminals.{number_of, class_of, numeral, class_of_zero, class_of_more, class_of_none}
+use Rattle.carol_syntax_rules.specs.Rules.{numbers, positives, digits, name, number, positive, num, int, bit}
 use Rattle.carol_parse.proofs.Holds.{Holds, hold_token, hold_gives, hold_either, hold_behind}
 
--- the classes of names, and of the numbers 0 and 1
+-- the class of names
 abbrev names : List ℕ
 names = number_of k.Name ∷ []
-
-abbrev below_two : List ℕ
-below_two = 100 ∷ 101 ∷ []
 
 no_name : (n : ℕ) → has names (numeral n) ≡ false
 unfolding number_of
 no_name zero = refl
 no_name (suc zero) = refl
-no_name (suc (suc n)) = elim (nat_le (suc (suc n)) largest) as (λ b. has names (cond b 102 103) ≡ false) [ true ↦ refl | false ↦ refl ]
+no_name (suc (suc n)) = elim (nat_le (suc (suc n)) largest) as (λ b. has names (cond b class_of_more class_of_none) ≡ false) [ true ↦ refl | false ↦ refl ]
 
 named : (kind : Kind) → has names (number_of kind) ≡ true → kind ≡ k.Name
 unfolding number_of
@@ -49,7 +46,7 @@ numeral_small zero h = omega arith
 numeral_small (suc zero) h = omega arith
 numeral_small (suc (suc n)) h = go (nat_le (suc (suc n)) largest) refl h
   where
-    go : (b : Bool) → nat_le (suc (suc n)) largest ≡ b → has numbers (cond b 102 103) ≡ true → suc (suc n) ≤ largest
+    go : (b : Bool) → nat_le (suc (suc n)) largest ≡ b → has numbers (cond b class_of_more class_of_none) ≡ true → suc (suc n) ≤ largest
     go true e h = grind (arith, nat_tests)
     go false e h = absurd cc
 
@@ -61,8 +58,8 @@ small : (l : Lexeme) → has numbers (class_of l) ≡ true → IsLiteral l.value
 unfolding class_of
 small l h = small_by (eqb (number_of l.kind) (number_of k.Number)) l.kind l.value h
 
-wider : (n : ℕ) → has (101 ∷ 102 ∷ []) n ≡ true → has numbers n ≡ true
-wider n h = elim (eqb n 100) as (λ b. (b || has (101 ∷ 102 ∷ []) n) ≡ true) [ true ↦ refl | false ↦ h ]
+wider : (n : ℕ) → has positives n ≡ true → has numbers n ≡ true
+wider n h = elim (eqb n class_of_zero) as (λ b. (b || has positives n) ≡ true) [ true ↦ refl | false ↦ h ]
 
 negative : (n : ℕ) → IsLiteral n → IsWhole (neg_ℤ (pos n))
 negative zero h = h
@@ -72,22 +69,22 @@ negative (suc n) h = omega arith
 abbrev pub IsBit : ℤ → Type 0
 IsBit z = (z ≡ pos 0) ⊎ (z ≡ pos 1)
 
-no_digit : (kind : Kind) → has below_two (number_of kind) ≡ false
+no_digit : (kind : Kind) → has digits (number_of kind) ≡ false
 unfolding number_of
 no_digit k.Number = refl
 no_digit _ = refl
 
-no_larger : (b : Bool) → has below_two (cond b 102 103) ≡ false
+no_larger : (b : Bool) → has digits (cond b class_of_more class_of_none) ≡ false
 no_larger true = refl
 no_larger false = refl
 
-bit_by : (b : Bool) (kind : Kind) (n : ℕ) → has below_two (cond b (numeral n) (number_of kind)) ≡ true → IsBit (pos n)
+bit_by : (b : Bool) (kind : Kind) (n : ℕ) → has digits (cond b (numeral n) (number_of kind)) ≡ true → IsBit (pos n)
 bit_by true kind zero h = inl refl
 bit_by true kind (suc zero) h = inr refl
 bit_by true kind (suc (suc n)) h = absurd (cc (no_larger (nat_le (suc (suc n)) largest), h))
 bit_by false kind n h = absurd (cc (no_digit kind, h))
 
-bit_class : (l : Lexeme) → has below_two (class_of l) ≡ true → IsBit (pos l.value)
+bit_class : (l : Lexeme) → has digits (class_of l) ≡ true → IsBit (pos l.value)
 unfolding class_of
 bit_class l h = bit_by (eqb (number_of l.kind) (number_of k.Number)) l.kind l.value h
 

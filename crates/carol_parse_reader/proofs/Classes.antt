@@ -9,8 +9,8 @@ use Rattle.carol_syntax_tokens.specs.declared.kind.Kind.TheVariants as k
 use Rattle.carol_syntax_tokens.specs.contracts.Kind.{the_type}
 use Rattle.carol_syntax_tokens.specs.declared.lexeme.Lexeme.{Lexeme}
 use Rattle.carol_syntax.specs.Limits.{largest}
-use Rattle.carol_syntax_rules.specs.Terminals.{class_of, number_of, numeral}
-use Rattle.carol_syntax_rules.specs.Rules.{numbers}
+use Rattle.carol_syntax_rules.specs.Terminals.{class_of, number_of, numeral, class_of_zero, class_of_more, class_of_none}
+use Rattle.carol_syntax_rules.specs.Rules.{numbers, positives, digits}
 use Rattle.carol_parse_reader.specs.Reads.{is_within}
 use denote.Enum.Declared.{rowss, tag_of}
 use denote.Enum.Enum.{Sum, tag}
@@ -22,18 +22,18 @@ tag_below [] a = absurd a
 tag_below (f ∷ fs) (inl x) = omega arith
 tag_below (f ∷ fs) (inr y) = let h : tag (rowss fs) y < length fs = tag_below fs y in omega arith
 
-pub few_kinds : (kind : Kind) → number_of kind < 100
+pub few_kinds : (kind : Kind) → number_of kind < class_of_zero
 unfolding number_of
 few_kinds kind =
     let h : tag_of the_type kind < length the_type.parts = tag_below the_type.parts (the_type.to kind) in
-    let e : nat_le (length the_type.parts) 100 ≡ true = refl in
+    let e : nat_le (length the_type.parts) class_of_zero ≡ true = refl in
     grind (arith, nat_tests)
 
-large_either : (b : Bool) → 100 ≤ cond b 102 103
+large_either : (b : Bool) → class_of_zero ≤ cond b class_of_more class_of_none
 large_either true = omega arith
 large_either false = omega arith
 
-numeral_large : (n : ℕ) → 100 ≤ numeral n
+numeral_large : (n : ℕ) → class_of_zero ≤ numeral n
 numeral_large zero = omega arith
 numeral_large (suc zero) = omega arith
 numeral_large (suc (suc n)) = large_either (nat_le (suc (suc n)) largest)
@@ -42,10 +42,10 @@ no_more : (b : Bool) → b ≡ (b || false)
 no_more true = refl
 no_more false = refl
 
-differ : (n m : ℕ) → m < 100 → eqb (numeral n) m ≡ false
-differ n m h = let e : 100 ≤ numeral n = numeral_large n in grind (arith, nat_tests)
+differ : (n m : ℕ) → m < class_of_zero → eqb (numeral n) m ≡ false
+differ n m h = let e : class_of_zero ≤ numeral n = numeral_large n in grind (arith, nat_tests)
 
-class_by : (b : Bool) (a m v : ℕ) → m < 100 → (b ≡ true → eqb a m ≡ false) → eqb a m ≡ has (m ∷ []) (cond b (numeral v) a)
+class_by : (b : Bool) (a m v : ℕ) → m < class_of_zero → (b ≡ true → eqb a m ≡ false) → eqb a m ≡ has (m ∷ []) (cond b (numeral v) a)
 class_by true a m v h f = f refl ∙ sym (ap (λ c. c || false) (differ v m h))
 class_by false a m v h f = no_more (eqb a m)
 
@@ -57,37 +57,34 @@ pub class_is : (l : Lexeme) (kind : Kind) → kind ≢ k.Number → sameb the_ty
 unfolding class_of number_of
 class_is l kind h = class_by (eqb (tag_of the_type l.kind) 1) (tag_of the_type l.kind) (tag_of the_type kind) l.value (few_kinds kind) (apart_from (tag_of the_type l.kind) (tag_of the_type kind) (false_same the_type tt kind k.Number h))
 
-none_of : (a : ℕ) → a < 100 → has (100 ∷ 101 ∷ 102 ∷ []) a ≡ false
-none_of a h = grind (arith, nat_tests)
-
-numbers_by : (b : Bool) (a v : ℕ) → a < 100 → has numbers (cond b (numeral v) a) ≡ (b && nat_le v largest)
+numbers_by : (b : Bool) (a v : ℕ) → a < class_of_zero → has numbers (cond b (numeral v) a) ≡ (b && nat_le v largest)
 numbers_by true a zero h = refl
 numbers_by true a (suc zero) h = refl
 numbers_by true a (suc (suc n)) h = large (nat_le (suc (suc n)) largest)
   where
-    large : (c : Bool) → has numbers (cond c 102 103) ≡ c
+    large : (c : Bool) → has numbers (cond c class_of_more class_of_none) ≡ c
     large true = refl
     large false = refl
 numbers_by false a v h = grind (arith, nat_tests)
 
-positive_by : (b : Bool) (a v : ℕ) → a < 100 → has (101 ∷ 102 ∷ []) (cond b (numeral v) a) ≡ (b && (nat_le 1 v && nat_le v largest))
+positive_by : (b : Bool) (a v : ℕ) → a < class_of_zero → has positives (cond b (numeral v) a) ≡ (b && (nat_le 1 v && nat_le v largest))
 positive_by true a zero h = refl
 positive_by true a (suc zero) h = refl
 positive_by true a (suc (suc n)) h = large (nat_le (suc (suc n)) largest) (nat_le 1 (suc (suc n))) (grind (arith, nat_tests))
   where
-    large : (c d : Bool) → d ≡ true → has (101 ∷ 102 ∷ []) (cond c 102 103) ≡ (d && c)
+    large : (c d : Bool) → d ≡ true → has positives (cond c class_of_more class_of_none) ≡ (d && c)
     large true true e = refl
     large false true e = refl
     large true false e = sym e
     large false false e = refl
 positive_by false a v h = grind (arith, nat_tests)
 
-digit_by : (b : Bool) (a v : ℕ) → a < 100 → has (100 ∷ 101 ∷ []) (cond b (numeral v) a) ≡ (b && nat_le v 1)
+digit_by : (b : Bool) (a v : ℕ) → a < class_of_zero → has digits (cond b (numeral v) a) ≡ (b && nat_le v 1)
 digit_by true a zero h = refl
 digit_by true a (suc zero) h = refl
 digit_by true a (suc (suc n)) h = large (nat_le (suc (suc n)) largest) (nat_le (suc (suc n)) 1) (grind (arith, nat_tests))
   where
-    large : (c d : Bool) → d ≡ false → has (100 ∷ 101 ∷ []) (cond c 102 103) ≡ d
+    large : (c d : Bool) → d ≡ false → has digits (cond c class_of_more class_of_none) ≡ d
     large true true e = sym e
     large false true e = sym e
     large true false e = refl
@@ -104,12 +101,12 @@ unfolding class_of number_of
 numbers_within [] = refl
 numbers_within (l ∷ ls) = least_zero (sameb the_type l.kind k.Number) (nat_le l.value largest) l.value ∙ sym (numbers_by (sameb the_type l.kind k.Number) (tag_of the_type l.kind) l.value (few_kinds l.kind))
 
-pub positive_within : (ts : List Lexeme) → is_within 1 largest ts ≡ next_in class_of (101 ∷ 102 ∷ []) ts
+pub positive_within : (ts : List Lexeme) → is_within 1 largest ts ≡ next_in class_of positives ts
 unfolding class_of number_of
 positive_within [] = refl
 positive_within (l ∷ ls) = sym (positive_by (sameb the_type l.kind k.Number) (tag_of the_type l.kind) l.value (few_kinds l.kind))
 
-pub digits_within : (ts : List Lexeme) → is_within 0 1 ts ≡ next_in class_of (100 ∷ 101 ∷ []) ts
+pub digits_within : (ts : List Lexeme) → is_within 0 1 ts ≡ next_in class_of digits ts
 unfolding class_of number_of
 digits_within [] = refl
 digits_within (l ∷ ls) = least_zero (sameb the_type l.kind k.Number) (nat_le l.value 1) l.value ∙ sym (digit_by (sameb the_type l.kind k.Number) (tag_of the_type l.kind) l.value (few_kinds l.kind))

@@ -4,7 +4,7 @@ use Rattle.carol_syntax_tokens.specs.declared.kind.Kind.{Kind}
 use Rattle.carol_syntax_tokens.specs.declared.kind.Kind.TheVariants as k
 use Rattle.carol_syntax_tokens.specs.Keywords.{kind_in}
 use Rattle.carol_syntax_tokens.specs.First.{first_token}
-use Rattle.carol_print_canon.specs.Pieces.{IsSpelled, codes_of, is_fixed}
+use Rattle.carol_print_canon.specs.Pieces.{codes_of, IsSpelled, is_fixed}
 
 pub fixed_spelled : (kind : Kind) → is_fixed kind ≡ true → IsSpelled kind 0 (codes_of kind)
 unfolding first_token kind_in

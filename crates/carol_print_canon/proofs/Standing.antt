@@ -9,7 +9,7 @@ use Rattle.carol_syntax.specs.Words.{is_word_byte, is_word, is_keyword}
 use Rattle.carol_syntax.specs.Shape.{IsName}
 use Rattle.carol_syntax_tokens.specs.declared.kind.Kind.{Kind}
 use Rattle.carol_syntax_tokens.specs.declared.kind.Kind.TheVariants as k
-use Rattle.carol_print_canon.specs.Pieces.{Piece, text_of, IsSpelled, AreLaidBefore, ends, ends_before, codes_of, is_fixed}
+use Rattle.carol_print_canon.specs.Pieces.{codes_of, Piece, text_of, IsSpelled, AreLaidBefore, ends, ends_before, is_fixed}
 use Rattle.carol_print_canon.specs.Canonical.{Pieces, after_commas, with_commas, concat}
 
 -- what the crate of pieces promises

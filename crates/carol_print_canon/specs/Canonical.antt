@@ -1,6 +1,6 @@
 -- The canonical text of a file, as pieces: each declaration, statement, session head, command and line of a script stands
 -- on a line of its own.
-use Rattle.std.specs.Prelude.{ℕ, suc, ℤ, pos, negsuc, Bool, true, false, ◌||◌, ◌==◌, List, [], ◌∷◌, ◌++◌, Option, Some, None, codes, map, if◌then◌else◌}
+use Rattle.std.specs.Prelude.{ℕ, suc, ℤ, pos, negsuc, Bool, true, false, ◌||◌, ◌==◌, List, [], ◌∷◌, ◌++◌, Option, Some, None, map, if◌then◌else◌}
 use Rattle.std.specs.Fmt.{decimal}
 use Rattle.carol_syntax.specs.declared.places.Ident.{Ident}
 use Rattle.carol_syntax.specs.declared.places.Num.{Num}
@@ -31,7 +31,7 @@ use Rattle.carol_syntax.specs.Bodies.{BodyTree, Return, If}
 use Rattle.carol_syntax.specs.Files.{NamedFormula, OpTree, ProgramTree, FileTree}
 use Rattle.carol_syntax_tokens.specs.declared.kind.Kind.{Kind}
 use Rattle.carol_syntax_tokens.specs.declared.kind.Kind.TheVariants as k
-use Rattle.carol_print_canon.specs.Pieces.{Piece, Token, Space, Break}
+use Rattle.carol_print_canon.specs.Pieces.{Piece, Token, Space, Break, fixed}
 
 abbrev pub Pieces : Type 0
 Pieces = List Piece
@@ -39,34 +39,34 @@ Pieces = List Piece
 -- Words and symbols; those that a text has often have a name.
 
 abbrev pub semicolon : Piece
-semicolon = Token k.Semicolon 0 (codes ";")
+semicolon = fixed k.Semicolon
 
 abbrev pub comma : Piece
-comma = Token k.Comma 0 (codes ",")
+comma = fixed k.Comma
 
 abbrev pub colon : Piece
-colon = Token k.Colon 0 (codes ":")
+colon = fixed k.Colon
 
 abbrev pub dot : Piece
-dot = Token k.Dot 0 (codes ".")
+dot = fixed k.Dot
 
 abbrev pub opening : Piece
-opening = Token k.Opening 0 (codes "(")
+opening = fixed k.Opening
 
 abbrev pub closing : Piece
-closing = Token k.Closing 0 (codes ")")
+closing = fixed k.Closing
 
 abbrev pub opening_brace : Piece
-opening_brace = Token k.OpeningBrace 0 (codes "{")
+opening_brace = fixed k.OpeningBrace
 
 abbrev pub closing_brace : Piece
-closing_brace = Token k.ClosingBrace 0 (codes "}")
+closing_brace = fixed k.ClosingBrace
 
 abbrev pub equals : Piece
-equals = Token k.Equals 0 (codes "=")
+equals = fixed k.Equals
 
 abbrev pub minus : Piece
-minus = Token k.Minus 0 (codes "-")
+minus = fixed k.Minus
 
 abbrev pub name : Ident → Piece
 name i = Token k.Name 0 i.word
@@ -106,16 +106,16 @@ path [] = []
 path (i ∷ more) = name i ∷ after_dots more
 
 abbrev pub here : Piece
-here = Token k.Here 0 (codes "here")
+here = fixed k.Here
 
 abbrev pub there : Piece
-there = Token k.There 0 (codes "there")
+there = fixed k.There
 
 abbrev pub sized : Pieces → Pieces
-sized ps = Token k.Size 0 (codes "size") ∷ opening ∷ (ps ++ closing ∷ [])
+sized ps = fixed k.Size ∷ opening ∷ (ps ++ closing ∷ [])
 
 abbrev pub value_as : ValueKind → List Ident → Pieces
-value_as way.Outcome parts = Token k.Result 0 (codes "result") ∷ []
+value_as way.Outcome parts = fixed k.Result ∷ []
 value_as way.Plain parts = path parts
 value_as way.Here parts = here ∷ dot ∷ path parts
 value_as way.There parts = there ∷ dot ∷ path parts
@@ -131,14 +131,14 @@ abbrev pub product_of : Option ℕ → Option ValueDecl → Pieces
 product_of None None = []
 product_of None (Some v) = value v
 product_of (Some n) None = number n ∷ []
-product_of (Some n) (Some v) = number n ∷ Token k.Star 0 (codes "*") ∷ value v
+product_of (Some n) (Some v) = number n ∷ fixed k.Star ∷ value v
 
 abbrev pub product : ProductDecl → Pieces
 product p = product_of p.factor p.value
 
 abbrev pub added_sign : Bool → Piece
 added_sign true = minus
-added_sign false = Token k.Plus 0 (codes "+")
+added_sign false = fixed k.Plus
 
 -- the products behind the first one
 abbrev pub more_products : List ProductDecl → Pieces
@@ -159,12 +159,12 @@ term t = sum_of t.products
 -- Formulas.
 
 abbrev pub sign : Sign → Piece
-sign sign_of.AtMost = Token k.AtMost 0 (codes "<=")
-sign sign_of.Below = Token k.Below 0 (codes "<")
-sign sign_of.AtLeast = Token k.AtLeast 0 (codes ">=")
-sign sign_of.Above = Token k.Above 0 (codes ">")
+sign sign_of.AtMost = fixed k.AtMost
+sign sign_of.Below = fixed k.Below
+sign sign_of.AtLeast = fixed k.AtLeast
+sign sign_of.Above = fixed k.Above
 sign sign_of.Same = equals
-sign sign_of.Differs = Token k.Differs 0 (codes "!=")
+sign sign_of.Differs = fixed k.Differs
 
 abbrev pub is_either : FormulaTree → Bool
 is_either (Or f g) = true
@@ -180,19 +180,19 @@ enclosed true ps = opening ∷ (ps ++ closing ∷ [])
 enclosed false ps = ps
 
 abbrev pub formula : FormulaTree → Pieces
-formula True = Token k.True 0 (codes "true") ∷ []
-formula False = Token k.False 0 (codes "false") ∷ []
-formula (Not f) = Token k.Not 0 (codes "not") ∷ Space ∷ enclosed (is_either f || is_both f) (formula f)
-formula (And f g) = enclosed (is_either f) (formula f) ++ (Space ∷ Token k.And 0 (codes "and") ∷ Space ∷ enclosed (is_either g || is_both g) (formula g))
-formula (Or f g) = formula f ++ (Space ∷ Token k.Or 0 (codes "or") ∷ Space ∷ enclosed (is_either g) (formula g))
+formula True = fixed k.True ∷ []
+formula False = fixed k.False ∷ []
+formula (Not f) = fixed k.Not ∷ Space ∷ enclosed (is_either f || is_both f) (formula f)
+formula (And f g) = enclosed (is_either f) (formula f) ++ (Space ∷ fixed k.And ∷ Space ∷ enclosed (is_either g || is_both g) (formula g))
+formula (Or f g) = formula f ++ (Space ∷ fixed k.Or ∷ Space ∷ enclosed (is_either g) (formula g))
 formula (Compare left s right) = term left ++ (Space ∷ sign s ∷ Space ∷ term right)
 
 -- Cells.
 
 abbrev pub field_kind : FieldKind → Piece
-field_kind field_kind_of.Counter = Token k.Counter 0 (codes "counter")
-field_kind field_kind_of.Peak = Token k.Peak 0 (codes "peak")
-field_kind field_kind_of.Flag = Token k.Flag 0 (codes "flag")
+field_kind field_kind_of.Counter = fixed k.Counter
+field_kind field_kind_of.Peak = fixed k.Peak
+field_kind field_kind_of.Flag = fixed k.Flag
 
 abbrev pub field : FieldDecl → Pieces
 field f = field_kind f.kind ∷ Space ∷ name f.name ∷ Space ∷ equals ∷ Space ∷ (int f.start ++ semicolon ∷ [])
@@ -204,94 +204,94 @@ fields (f ∷ fs) = Space ∷ (field f ++ fields fs)
 abbrev pub cell : CellDecl → Pieces
 cell (cell_of.Field f) = field f ++ Break ∷ []
 cell (cell_of.Set n members) =
-    Token k.Set 0 (codes "set") ∷ Space ∷ name n ∷ Space ∷ opening_brace ∷ Space ∷ (with_commas (map only_name members) ++ Space ∷ closing_brace ∷ semicolon ∷ Break ∷ [])
+    fixed k.Set ∷ Space ∷ name n ∷ Space ∷ opening_brace ∷ Space ∷ (with_commas (map only_name members) ++ Space ∷ closing_brace ∷ semicolon ∷ Break ∷ [])
 cell (cell_of.Record n fs) =
-    Token k.Record 0 (codes "record") ∷ Space ∷ name n ∷ Space ∷ opening_brace ∷ (fields fs ++ Space ∷ closing_brace ∷ Break ∷ [])
+    fixed k.Record ∷ Space ∷ name n ∷ Space ∷ opening_brace ∷ (fields fs ++ Space ∷ closing_brace ∷ Break ∷ [])
 
 -- Bodies.
 
 abbrev pub change : Change → Pieces
-change (change_of.Add t) = Token k.PlusEquals 0 (codes "+=") ∷ Space ∷ term t
-change (change_of.Take t) = Token k.MinusEquals 0 (codes "-=") ∷ Space ∷ term t
-change (change_of.Raise t) = Token k.Raise 0 (codes "raise") ∷ Space ∷ term t
-change change_of.Set = Token k.Set 0 (codes "set") ∷ []
+change (change_of.Add t) = fixed k.PlusEquals ∷ Space ∷ term t
+change (change_of.Take t) = fixed k.MinusEquals ∷ Space ∷ term t
+change (change_of.Raise t) = fixed k.Raise ∷ Space ∷ term t
+change change_of.Set = fixed k.Set ∷ []
 
 abbrev pub atom : AtomDecl → Pieces
 atom a = path a.path.parts ++ Space ∷ change a.change
 
 abbrev pub statement : Statement → Pieces
-statement (statement_of.Query n g) = Token k.Query 0 (codes "query") ∷ Space ∷ name n ∷ Space ∷ Token k.Under 0 (codes "under") ∷ Space ∷ name g ∷ semicolon ∷ Break ∷ []
-statement statement_of.Release = Token k.Release 0 (codes "release") ∷ semicolon ∷ Break ∷ []
-statement (statement_of.Let n t) = Token k.Let 0 (codes "let") ∷ Space ∷ name n ∷ Space ∷ equals ∷ Space ∷ (term t ++ semicolon ∷ Break ∷ [])
-statement (statement_of.Issue atoms) = Token k.Issue 0 (codes "issue") ∷ Space ∷ (with_commas (map atom atoms) ++ semicolon ∷ Break ∷ [])
+statement (statement_of.Query n g) = fixed k.Query ∷ Space ∷ name n ∷ Space ∷ fixed k.Under ∷ Space ∷ name g ∷ semicolon ∷ Break ∷ []
+statement statement_of.Release = fixed k.Release ∷ semicolon ∷ Break ∷ []
+statement (statement_of.Let n t) = fixed k.Let ∷ Space ∷ name n ∷ Space ∷ equals ∷ Space ∷ (term t ++ semicolon ∷ Break ∷ [])
+statement (statement_of.Issue atoms) = fixed k.Issue ∷ Space ∷ (with_commas (map atom atoms) ++ semicolon ∷ Break ∷ [])
 
 -- the lines between the braces of a body
 abbrev pub inside : BodyTree → Pieces
-inside (Return plain t) = concat (map statement plain) ++ (Token k.Return 0 (codes "return") ∷ Space ∷ (term t ++ semicolon ∷ Break ∷ []))
+inside (Return plain t) = concat (map statement plain) ++ (fixed k.Return ∷ Space ∷ (term t ++ semicolon ∷ Break ∷ []))
 inside (If plain test first second) =
     concat (map statement plain)
-    ++ (Token k.If 0 (codes "if") ∷ Space ∷ (formula test
+    ++ (fixed k.If ∷ Space ∷ (formula test
     ++ (Space ∷ opening_brace ∷ Break ∷ (inside first
-    ++ (closing_brace ∷ Space ∷ Token k.Else 0 (codes "else") ∷ Space ∷ opening_brace ∷ Break ∷ (inside second
+    ++ (closing_brace ∷ Space ∷ fixed k.Else ∷ Space ∷ opening_brace ∷ Break ∷ (inside second
     ++ (closing_brace ∷ Break ∷ [])))))))
 
 -- Programs.
 
 abbrev pub guard : NamedFormula → Pieces
-guard g = Token k.Guard 0 (codes "guard") ∷ Space ∷ name g.name ∷ colon ∷ Space ∷ (formula g.formula ++ semicolon ∷ Break ∷ [])
+guard g = fixed k.Guard ∷ Space ∷ name g.name ∷ colon ∷ Space ∷ (formula g.formula ++ semicolon ∷ Break ∷ [])
 
 abbrev pub param : NamedFormula → Pieces
 param p = name p.name ∷ colon ∷ Space ∷ formula p.formula
 
 abbrev pub op : OpTree → Pieces
 op o =
-    Token k.Op 0 (codes "op") ∷ Space ∷ name o.name ∷ opening ∷ (with_commas (map param o.params)
-    ++ (closing ∷ Space ∷ Token k.Gives 0 (codes "gives") ∷ Space ∷ (formula o.gives
+    fixed k.Op ∷ Space ∷ name o.name ∷ opening ∷ (with_commas (map param o.params)
+    ++ (closing ∷ Space ∷ fixed k.Gives ∷ Space ∷ (formula o.gives
     ++ (Space ∷ opening_brace ∷ Break ∷ (inside o.body ++ (closing_brace ∷ Break ∷ []))))))
 
 abbrev pub end : Pieces
-end = Token k.End 0 (codes "end") ∷ Break ∷ []
+end = fixed k.End ∷ Break ∷ []
 
 abbrev pub program : ProgramTree → Pieces
 program p =
-    Token k.Program 0 (codes "program") ∷ Break ∷ (concat (map cell p.cells)
-    ++ (Token k.Invariant 0 (codes "invariant") ∷ Space ∷ (formula p.invariant ++ (semicolon ∷ Break ∷ (concat (map guard p.guards)
+    fixed k.Program ∷ Break ∷ (concat (map cell p.cells)
+    ++ (fixed k.Invariant ∷ Space ∷ (formula p.invariant ++ (semicolon ∷ Break ∷ (concat (map guard p.guards)
     ++ (concat (map op p.ops) ++ end))))))
 
 -- Scenes and scripts.
 
 -- how often a command stands, where that isn't once
 abbrev pub times : ℕ → Pieces
-times n = if n == 1 then [] else Space ∷ Token k.Times 0 (codes "times") ∷ Space ∷ number n ∷ []
+times n = if n == 1 then [] else Space ∷ fixed k.Times ∷ Space ∷ number n ∷ []
 
 abbrev pub command : CommandDecl → Pieces
 command c = name c.name ∷ opening ∷ (with_commas (map int c.args) ++ (closing ∷ (times c.times.value ++ (semicolon ∷ Break ∷ []))))
 
 abbrev pub session : SessionDecl → Pieces
 session s =
-    Token k.Session 0 (codes "session") ∷ Space ∷ Token k.At 0 (codes "at") ∷ Space ∷ number s.replica.value ∷ Space ∷ opening_brace ∷ Break
+    fixed k.Session ∷ Space ∷ fixed k.At ∷ Space ∷ number s.replica.value ∷ Space ∷ opening_brace ∷ Break
     ∷ (concat (map command s.commands) ++ (closing_brace ∷ Break ∷ []))
 
-abbrev pub setting : Kind → List ℕ → Num → Pieces
-setting kind spelled n = Token kind 0 spelled ∷ Space ∷ number n.value ∷ semicolon ∷ Break ∷ []
+abbrev pub setting : Kind → Num → Pieces
+setting kind n = fixed kind ∷ Space ∷ number n.value ∷ semicolon ∷ Break ∷ []
 
 abbrev pub scene : SceneDecl → Pieces
 scene s =
-    Token k.Scene 0 (codes "scene") ∷ Break ∷ (setting k.Replicas (codes "replicas") s.replicas
-    ++ (setting k.Tries (codes "tries") s.tries ++ (setting k.Workers (codes "workers") s.workers
-    ++ (setting k.Gossipers (codes "gossipers") s.gossipers ++ (concat (map session s.sessions) ++ end)))))
+    fixed k.Scene ∷ Break ∷ (setting k.Replicas s.replicas
+    ++ (setting k.Tries s.tries ++ (setting k.Workers s.workers
+    ++ (setting k.Gossipers s.gossipers ++ (concat (map session s.sessions) ++ end)))))
 
-abbrev pub pair : Kind → List ℕ → ℕ → ℕ → Pieces
-pair kind spelled q r = Token kind 0 spelled ∷ Space ∷ number q ∷ Space ∷ number r ∷ semicolon ∷ Break ∷ []
+abbrev pub pair : Kind → ℕ → ℕ → Pieces
+pair kind q r = fixed kind ∷ Space ∷ number q ∷ Space ∷ number r ∷ semicolon ∷ Break ∷ []
 
 abbrev pub line : ScriptLine → Pieces
-line (line_of.Go s) = Token k.Go 0 (codes "go") ∷ Space ∷ number s ∷ semicolon ∷ Break ∷ []
-line (line_of.Gossip q r) = pair k.Gossip (codes "gossip") q r
-line (line_of.Cut q r) = pair k.Cut (codes "cut") q r
-line (line_of.Join q r) = pair k.Join (codes "join") q r
+line (line_of.Go s) = fixed k.Go ∷ Space ∷ number s ∷ semicolon ∷ Break ∷ []
+line (line_of.Gossip q r) = pair k.Gossip q r
+line (line_of.Cut q r) = pair k.Cut q r
+line (line_of.Join q r) = pair k.Join q r
 
 abbrev pub script : List ScriptLine → Pieces
-script lines = Token k.Script 0 (codes "script") ∷ Break ∷ (concat (map line lines) ++ end)
+script lines = fixed k.Script ∷ Break ∷ (concat (map line lines) ++ end)
 
 abbrev pub part_of : {A : Type 0} → (A → Pieces) → Option A → Pieces
 part_of f None = []

@@ -1,8 +1,10 @@
 -- What a canonical text is made of, and that it is cut again into what it was made of.
-use Rattle.std.specs.Prelude.{◌≡◌, ℕ, ◌-◌, Bool, true, false, not, ◌&&◌, ◌==◌, if◌then◌else◌, List, [], ◌∷◌, ◌++◌, length, take, drop, Some, codes}
-use Rattle.carol_syntax.specs.Words.{is_word_byte}
+use Rattle.std.specs.Prelude.{◌≡◌, ℕ, zero, suc, ◌-◌, Bool, true, false, not, ◌&&◌, ◌==◌, if◌then◌else◌, List, [], ◌∷◌, ◌++◌, length, take, drop, Some, codes}
+use Rattle.carol_syntax.specs.Words.{is_word_byte, keywords}
 use Rattle.carol_syntax_tokens.specs.declared.kind.Kind.{Kind}
 use Rattle.carol_syntax_tokens.specs.declared.kind.Kind.TheVariants as k
+use Rattle.carol_syntax_tokens.specs.contracts.Kind.{the_type}
+use denote.Enum.Declared.{tag_of}
 use Rattle.carol_syntax_tokens.specs.declared.lexeme.Lexeme.{Lexeme}
 use Rattle.carol_syntax_tokens.specs.declared.lexeme.Stop.TheVariants.{End}
 use Rattle.carol_syntax_tokens.specs.declared.public.TokenKind.TheVariants.{Symbol}
@@ -99,76 +101,22 @@ abbrev pub CutAgain : List Piece → Type 0
 CutAgain pieces =
     (list : List Lexeme) × (end : Place) × Cut start (text_of pieces) list End end × Spells (text_of pieces) list (tokens_in pieces)
 
--- the bytes of a symbol or a keyword
+-- how the symbols are spelled, in the order of their kinds
+abbrev pub symbols : List (List ℕ)
+symbols =
+    codes ";" ∷ codes ":" ∷ codes "," ∷ codes "." ∷ codes "(" ∷ codes ")" ∷ codes "{" ∷
+    codes "}" ∷ codes "=" ∷ codes "+=" ∷ codes "-=" ∷ codes "+" ∷ codes "-" ∷ codes "*" ∷
+    codes "<=" ∷ codes "<" ∷ codes ">=" ∷ codes ">" ∷ codes "!=" ∷ []
+
+-- the word with this number, from 0 on
+abbrev pub word_at : ℕ → List (List ℕ) → List ℕ
+word_at n [] = []
+word_at zero (word ∷ words) = word
+word_at (suc n) (word ∷ words) = word_at n words
+
+-- how a symbol or a keyword is spelled, and nothing for a name or a number, whose kinds come first
 abbrev pub codes_of : Kind → List ℕ
-codes_of k.Name = []
-codes_of k.Number = []
-codes_of k.Semicolon = codes ";"
-codes_of k.Colon = codes ":"
-codes_of k.Comma = codes ","
-codes_of k.Dot = codes "."
-codes_of k.Opening = codes "("
-codes_of k.Closing = codes ")"
-codes_of k.OpeningBrace = codes "{"
-codes_of k.ClosingBrace = codes "}"
-codes_of k.Equals = codes "="
-codes_of k.PlusEquals = codes "+="
-codes_of k.MinusEquals = codes "-="
-codes_of k.Plus = codes "+"
-codes_of k.Minus = codes "-"
-codes_of k.Star = codes "*"
-codes_of k.AtMost = codes "<="
-codes_of k.Below = codes "<"
-codes_of k.AtLeast = codes ">="
-codes_of k.Above = codes ">"
-codes_of k.Differs = codes "!="
-codes_of k.Program = codes "program"
-codes_of k.Scene = codes "scene"
-codes_of k.Script = codes "script"
-codes_of k.Transcript = codes "transcript"
-codes_of k.End = codes "end"
-codes_of k.Counter = codes "counter"
-codes_of k.Peak = codes "peak"
-codes_of k.Flag = codes "flag"
-codes_of k.Set = codes "set"
-codes_of k.Record = codes "record"
-codes_of k.Invariant = codes "invariant"
-codes_of k.Guard = codes "guard"
-codes_of k.Op = codes "op"
-codes_of k.Gives = codes "gives"
-codes_of k.Result = codes "result"
-codes_of k.Query = codes "query"
-codes_of k.Under = codes "under"
-codes_of k.Issue = codes "issue"
-codes_of k.Raise = codes "raise"
-codes_of k.Release = codes "release"
-codes_of k.Let = codes "let"
-codes_of k.If = codes "if"
-codes_of k.Else = codes "else"
-codes_of k.Return = codes "return"
-codes_of k.True = codes "true"
-codes_of k.False = codes "false"
-codes_of k.And = codes "and"
-codes_of k.Or = codes "or"
-codes_of k.Not = codes "not"
-codes_of k.Size = codes "size"
-codes_of k.Here = codes "here"
-codes_of k.There = codes "there"
-codes_of k.Replicas = codes "replicas"
-codes_of k.Tries = codes "tries"
-codes_of k.Workers = codes "workers"
-codes_of k.Gossipers = codes "gossipers"
-codes_of k.Session = codes "session"
-codes_of k.At = codes "at"
-codes_of k.Times = codes "times"
-codes_of k.Go = codes "go"
-codes_of k.Gossip = codes "gossip"
-codes_of k.Cut = codes "cut"
-codes_of k.Join = codes "join"
-codes_of k.Shape = codes "shape"
-codes_of k.Open = codes "open"
-codes_of k.In = codes "in"
-codes_of k.Call = codes "call"
+codes_of kind = word_at (tag_of the_type kind) ([] ∷ [] ∷ (symbols ++ keywords))
 
 -- a symbol or a keyword as a piece
 abbrev pub fixed : Kind → Piece

@@ -9,7 +9,7 @@ ghost use Rattle.carol_syntax.specs.Shape.{IsFile};
 ghost use Rattle.carol_syntax_tokens.specs.declared.kind.Kind.{Kind};
 ghost use Rattle.carol_syntax_tokens.specs.declared.kind.Kind.TheVariants as k;
 ghost use Rattle.carol_syntax_tokens.specs.declared.lexeme.Lexeme.{Lexeme};
-ghost use Rattle.carol_print_canon.specs.Pieces.{Piece, text_of, tokens_in, AreLaidBefore, AreLaidOut, are_apart, IsSpelled, Spells, SpellsBoth, CutAgain, codes_of, is_fixed};
+ghost use Rattle.carol_print_canon.specs.Pieces.{codes_of, Piece, text_of, tokens_in, AreLaidBefore, AreLaidOut, are_apart, IsSpelled, Spells, SpellsBoth, CutAgain, is_fixed};
 ghost use Rattle.carol_print_canon.specs.Canonical.{canonical};
 
 /// The text of two lists of pieces is that of the first and then that of the second.

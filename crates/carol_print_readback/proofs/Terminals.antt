@@ -11,7 +11,7 @@ use Rattle.carol_syntax_tokens.specs.declared.kind.Kind.TheVariants as k
 use Rattle.carol_syntax_tokens.specs.declared.lexeme.Lexeme.{Lexeme}
 use Rattle.carol_syntax.specs.Limits.{largest}
 use Rattle.carol_syntax_rules.specs.Terminals.{number_of, class_of, numeral}
-use Rattle.carol_syntax_rules.specs.Rules.{numbers, name, number, num, int, bit}
+use Rattle.carol_syntax_rules.specs.Rules.{numbers, positives, digits, name, number, num, int, bit}
 use Rattle.carol_print_canon.specs.Pieces.{Piece}
 use Rattle.carol_print_canon.specs.Canonical as text
 use Rattle.carol_print_readback.proofs.Reached.{Same, Reaches, onto, reach_token, reach_word, reach_with, reach_gives, reach_left, reach_right, reach_behind}
@@ -25,7 +25,7 @@ any_numeral zero h = refl
 any_numeral (suc zero) h = refl
 any_numeral (suc (suc n)) h = let e : nat_le (suc (suc n)) largest ≡ true = grind (arith, nat_tests) in rw e refl
 
-positive_numeral : (n : ℕ) → suc n ≤ largest → has (101 ∷ 102 ∷ []) (numeral (suc n)) ≡ true
+positive_numeral : (n : ℕ) → suc n ≤ largest → has positives (numeral (suc n)) ≡ true
 positive_numeral zero h = refl
 positive_numeral (suc n) h = let e : nat_le (suc (suc n)) largest ≡ true = grind (arith, nat_tests) in rw e refl
 
@@ -49,14 +49,14 @@ module _ {bytes : List ℕ} where
   unfolding int
   reach_int (pos n) h = reach_left (reach_gives (reach_number n h) (λ l e. ap pos e))
   reach_int (negsuc n) h =
-      reach_right (reach_gives (reach_behind refl (reach_token (classed (101 ∷ 102 ∷ []) (suc n) (positive_numeral n (omega arith)))))
+      reach_right (reach_gives (reach_behind refl (reach_token (classed positives (suc n) (positive_numeral n (omega arith)))))
       (λ l e. ap (λ v. neg_ℤ (pos v)) e.1))
 
   pub reach_bit : (z : ℤ) {us : List Piece} → (z ≡ pos 0) ⊎ (z ≡ pos 1) → Reaches bytes bit (onto (text.int z) us) us (λ y. y ≡ z)
   unfolding bit
   reach_bit z {us = us} (inl e) =
       subst (λ z. Reaches bytes bit (onto (text.int z) us) us (λ y. y ≡ z)) (sym e)
-      (reach_gives (reach_token (classed (100 ∷ 101 ∷ []) 0 refl)) (λ l f. ap pos f.1))
+      (reach_gives (reach_token (classed digits 0 refl)) (λ l f. ap pos f.1))
   reach_bit z {us = us} (inr e) =
       subst (λ z. Reaches bytes bit (onto (text.int z) us) us (λ y. y ≡ z)) (sym e)
-      (reach_gives (reach_token (classed (100 ∷ 101 ∷ []) 1 refl)) (λ l f. ap pos f.1))
+      (reach_gives (reach_token (classed digits 1 refl)) (λ l f. ap pos f.1))

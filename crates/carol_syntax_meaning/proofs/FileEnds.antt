@@ -5,7 +5,7 @@ use Rattle.carol_syntax_tokens.specs.declared.kind.Kind.{Kind}
 use Rattle.carol_syntax_tokens.specs.declared.kind.Kind.TheVariants as k
 use Rattle.carol_syntax_tokens.specs.declared.lexeme.Lexeme.{Lexeme}
 use Rattle.carol_syntax.specs.Limits.{largest}
-use Rattle.carol_syntax_rules.specs.Terminals.{number_of, class_of, numeral}
+use Rattle.carol_syntax_rules.specs.Terminals.{number_of, class_of, numeral, class_of_more, class_of_none}
 use Rattle.carol_syntax_rules.specs.Rules.{file, program, IsFileOf}
 use Rattle.carol_syntax_meaning.specs.Limits.{is_end}
 
@@ -25,7 +25,7 @@ no_numeral zero = refl
 no_numeral (suc zero) = refl
 no_numeral (suc (suc n)) = of_test (nat_le (suc (suc n)) largest)
   where
-    of_test : (b : Bool) → eqb (cond b 102 103) (number_of k.End) ≡ false
+    of_test : (b : Bool) → eqb (cond b class_of_more class_of_none) (number_of k.End) ≡ false
     of_test true = refl
     of_test false = refl
 

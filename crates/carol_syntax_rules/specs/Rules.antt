@@ -1,6 +1,6 @@
 -- The grammar of the language, a rule at a time. The bytes are those of the whole text, of which a token names a part;
 -- `tail` is the offset behind a transcript's first line.
-use Rattle.std.specs.Prelude.{ℕ, ◌+◌, ◌-◌, Bool, true, false, ℤ, pos, neg_ℤ, List, [], ◌∷◌, fold, take, drop, length, Option, Some, None, option_to_list}
+use Rattle.std.specs.Prelude.{ℕ, ◌+◌, ◌-◌, Bool, true, false, ℤ, pos, neg_ℤ, List, [], ◌∷◌, ◌++◌, fold, take, drop, length, Option, Some, None, option_to_list}
 use Rattle.carol_grammar.specs.Rule.{Rule, Grammar}
 use Rattle.carol_grammar.specs.Rule.Rule.{token, both, gives, either, perhaps, many, begins, deeper}
 use Rattle.carol_grammar.specs.Sentence.{IsSentence}
@@ -37,7 +37,7 @@ use Rattle.carol_syntax.specs.Files.{NamedFormula, OpTree, ProgramTree, FileTree
 use Rattle.carol_syntax_tokens.specs.declared.kind.Kind.{Kind}
 use Rattle.carol_syntax_tokens.specs.declared.kind.Kind.TheVariants as k
 use Rattle.carol_syntax_tokens.specs.declared.lexeme.Lexeme.{Lexeme}
-use Rattle.carol_syntax_rules.specs.Terminals.{number_of, class_of, sample}
+use Rattle.carol_syntax_rules.specs.Terminals.{number_of, class_of, class_of_zero, class_of_one, class_of_more, sample}
 
 -- The two rules that reach themselves: a literal of a formula, and the end of a body. The value of an end is the body,
 -- once the statements before it are given.
@@ -65,7 +65,7 @@ name bytes = gives (λ l. record { word = spelling bytes l; span = l.span }) (wo
 
 -- the numbers 0 and 1, and those that are greater
 abbrev pub numbers : List ℕ
-numbers = 100 ∷ 101 ∷ 102 ∷ []
+numbers = class_of_zero ∷ class_of_one ∷ class_of_more ∷ []
 
 abbrev pub number : RuleOf Lexeme
 number = token numbers (λ l. l)
@@ -73,12 +73,19 @@ number = token numbers (λ l. l)
 unfoldable pub num : RuleOf Num
 num = gives (λ l. record { value = l.value; span = l.span }) number
 
--- the numbers that aren't 0, and those that are at most 1
+-- the numbers that aren't 0
+abbrev pub positives : List ℕ
+positives = class_of_one ∷ class_of_more ∷ []
+
 abbrev pub positive : RuleOf Lexeme
-positive = token (101 ∷ 102 ∷ []) (λ l. l)
+positive = token positives (λ l. l)
+
+-- the numbers that are at most 1
+abbrev pub digits : List ℕ
+digits = class_of_zero ∷ class_of_one ∷ []
 
 abbrev pub digit : RuleOf Lexeme
-digit = token (100 ∷ 101 ∷ []) (λ l. l)
+digit = token digits (λ l. l)
 
 -- a rule behind a word or a symbol, and one before it
 abbrev pub behind_word : {A : Type 0} → Kind → RuleOf A → RuleOf A
@@ -123,9 +130,6 @@ field_words = number_of k.Counter ∷ number_of k.Peak ∷ number_of k.Flag ∷ 
 
 abbrev pub more_fields : List ℕ → RuleOf (List FieldDecl)
 more_fields bytes = many (begins field_words (field bytes))
-
-abbrev pub more_names : List ℕ → RuleOf (List Ident)
-more_names bytes = and_more (name bytes)
 
 unfoldable pub set_cell : List ℕ → RuleOf CellDecl
 set_cell bytes =
@@ -279,9 +283,6 @@ change bytes =
 unfoldable pub atom : List ℕ → RuleOf AtomDecl
 atom bytes = gives (λ p. record { path = p.0; change = p.1 }) (both (path bytes) (change bytes))
 
-abbrev pub more_atoms : List ℕ → RuleOf (List AtomDecl)
-more_atoms bytes = and_more (atom bytes)
-
 unfoldable pub query : List ℕ → RuleOf Statement
 query bytes =
     gives (λ p. statement_of.Query p.0 p.1) (behind_word k.Query (both (name bytes) (before_word (behind_word k.Under (name bytes)) k.Semicolon)))
@@ -329,9 +330,6 @@ abbrev pub list_of : {A : Type 0} → Option (List A) → List A
 list_of None = []
 list_of (Some xs) = xs
 
-abbrev pub more_params : List ℕ → RuleOf (List NamedFormula)
-more_params bytes = and_more (param bytes)
-
 unfoldable pub some_params : List ℕ → RuleOf (List NamedFormula)
 some_params bytes = gives list_of (perhaps (led k.Name (listed (param bytes))))
 
@@ -358,9 +356,6 @@ program bytes =
     (behind_word k.Program (both (cells bytes) (both (before_word (behind_word k.Invariant formula) k.Semicolon) (both (guards bytes) (before_word (ops bytes) k.End)))))
 
 -- Scenes and scripts.
-
-abbrev pub more_ints : RuleOf (List ℤ)
-more_ints = and_more int
 
 abbrev pub int_tokens : List ℕ
 int_tokens = number_of k.Minus ∷ numbers
@@ -457,7 +452,7 @@ abbrev pub value_starts : List ℕ
 value_starts = number_of k.Result ∷ number_of k.Name ∷ number_of k.Here ∷ number_of k.There ∷ number_of k.Size ∷ []
 
 abbrev pub literal_starts : List ℕ
-literal_starts = number_of k.Not ∷ number_of k.Opening ∷ number_of k.True ∷ number_of k.False ∷ number_of k.Minus ∷ 100 ∷ 101 ∷ 102 ∷ value_starts
+literal_starts = number_of k.Not ∷ number_of k.Opening ∷ number_of k.True ∷ number_of k.False ∷ number_of k.Minus ∷ (numbers ++ value_starts)
 
 abbrev pub starts_of : Knot → List ℕ
 starts_of literal = literal_starts

@@ -1,3 +1,5 @@
+-- The kinds of tokens that the rules tell apart, as numbers: a word's or a symbol's is its place among the kinds, and a
+-- number has one by whether it is 0, 1, or greater.
 use Rattle.std.specs.Prelude.{ℕ, zero, suc, ◌-◌, cond, nat_le, eqb, List, [], ◌∷◌}
 use Rattle.carol_syntax.specs.Limits.{largest}
 use Rattle.carol_syntax_tokens.specs.declared.kind.Kind.{Kind}
@@ -6,16 +8,27 @@ use Rattle.carol_syntax_tokens.specs.contracts.Kind.{the_type}
 use Rattle.carol_syntax_tokens.specs.declared.lexeme.Lexeme.{Lexeme}
 use denote.Enum.Declared.{tag_of}
 
--- The kinds of tokens that the rules tell apart, as numbers: a word's or a symbol's is its place among the kinds, and a
--- number has one by whether it is 0, 1, or greater.
-
 unfoldable pub number_of : Kind → ℕ
 number_of kind = tag_of the_type kind
 
+-- the classes of the numbers 0 and 1, of those that are greater, and of those that no text has: all
+-- greater than a word's or a symbol's
+abbrev pub class_of_zero : ℕ
+class_of_zero = 100
+
+abbrev pub class_of_one : ℕ
+class_of_one = 101
+
+abbrev pub class_of_more : ℕ
+class_of_more = 102
+
+abbrev pub class_of_none : ℕ
+class_of_none = 103
+
 abbrev pub numeral : ℕ → ℕ
-numeral zero = 100
-numeral (suc zero) = 101
-numeral (suc (suc n)) = cond (nat_le (suc (suc n)) largest) 102 103
+numeral zero = class_of_zero
+numeral (suc zero) = class_of_one
+numeral (suc (suc n)) = cond (nat_le (suc (suc n)) largest) class_of_more class_of_none
 
 unfoldable pub class_of : Lexeme → ℕ
 class_of l = cond (eqb (number_of l.kind) (number_of k.Number)) (numeral l.value) (number_of l.kind)
@@ -36,4 +49,4 @@ kind_with n (kind ∷ more) = cond (eqb (number_of kind) n) kind (kind_with n mo
 
 -- a token of each kind
 abbrev pub sample : ℕ → Lexeme
-sample n = record { kind = kind_with n words; value = n - 100; span = record { line = 1; column = 1 }; from = 0; to = 0 }
+sample n = record { kind = kind_with n words; value = n - class_of_zero; span = record { line = 1; column = 1 }; from = 0; to = 0 }

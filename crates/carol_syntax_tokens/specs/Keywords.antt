@@ -1,7 +1,9 @@
 -- Which words are keywords.
-use Rattle.std.specs.Prelude.{ℕ, List, [], ◌∷◌, if◌then◌else◌, codes}
+use Rattle.std.specs.Prelude.{ℕ, List, [], ◌∷◌, if◌then◌else◌}
+use Rattle.std.specs.List.{zip}
 use Rattle.std.specs.Borrow.{Bor}
 use Rattle.std.specs.Str.{bytes_eq}
+use Rattle.carol_syntax.specs.Words.{keywords}
 use Rattle.carol_syntax_tokens.specs.declared.kind.Kind.{Kind}
 use Rattle.carol_syntax_tokens.specs.declared.kind.Kind.TheVariants as k
 
@@ -10,56 +12,15 @@ unfoldable pub kind_in : List (List ℕ × Kind) → List ℕ → Kind
 kind_in [] word = k.Name
 kind_in (entry ∷ entries) word = if bytes_eq entry.0 word then entry.1 else kind_in entries word
 
--- the keywords, the last four without a rule that uses them
+-- the keywords and their kinds
 abbrev pub keyword_kinds : List (List ℕ × Kind)
-keyword_kinds =
-    (codes "program", k.Program) ∷
-    (codes "scene", k.Scene) ∷
-    (codes "script", k.Script) ∷
-    (codes "transcript", k.Transcript) ∷
-    (codes "end", k.End) ∷
-    (codes "counter", k.Counter) ∷
-    (codes "peak", k.Peak) ∷
-    (codes "flag", k.Flag) ∷
-    (codes "set", k.Set) ∷
-    (codes "record", k.Record) ∷
-    (codes "invariant", k.Invariant) ∷
-    (codes "guard", k.Guard) ∷
-    (codes "op", k.Op) ∷
-    (codes "gives", k.Gives) ∷
-    (codes "result", k.Result) ∷
-    (codes "query", k.Query) ∷
-    (codes "under", k.Under) ∷
-    (codes "issue", k.Issue) ∷
-    (codes "raise", k.Raise) ∷
-    (codes "release", k.Release) ∷
-    (codes "let", k.Let) ∷
-    (codes "if", k.If) ∷
-    (codes "else", k.Else) ∷
-    (codes "return", k.Return) ∷
-    (codes "true", k.True) ∷
-    (codes "false", k.False) ∷
-    (codes "and", k.And) ∷
-    (codes "or", k.Or) ∷
-    (codes "not", k.Not) ∷
-    (codes "size", k.Size) ∷
-    (codes "here", k.Here) ∷
-    (codes "there", k.There) ∷
-    (codes "replicas", k.Replicas) ∷
-    (codes "tries", k.Tries) ∷
-    (codes "workers", k.Workers) ∷
-    (codes "gossipers", k.Gossipers) ∷
-    (codes "session", k.Session) ∷
-    (codes "at", k.At) ∷
-    (codes "times", k.Times) ∷
-    (codes "go", k.Go) ∷
-    (codes "gossip", k.Gossip) ∷
-    (codes "cut", k.Cut) ∷
-    (codes "join", k.Join) ∷
-    (codes "shape", k.Shape) ∷
-    (codes "open", k.Open) ∷
-    (codes "in", k.In) ∷
-    (codes "call", k.Call) ∷ []
+keyword_kinds = zip keywords (
+    k.Program ∷ k.Scene ∷ k.Script ∷ k.Transcript ∷ k.End ∷ k.Counter ∷ k.Peak ∷ k.Flag ∷ k.Set ∷
+    k.Record ∷ k.Invariant ∷ k.Guard ∷ k.Op ∷ k.Gives ∷ k.Result ∷ k.Query ∷ k.Under ∷ k.Issue ∷
+    k.Raise ∷ k.Release ∷ k.Let ∷ k.If ∷ k.Else ∷ k.Return ∷ k.True ∷ k.False ∷ k.And ∷ k.Or ∷
+    k.Not ∷ k.Size ∷ k.Here ∷ k.There ∷ k.Replicas ∷ k.Tries ∷ k.Workers ∷ k.Gossipers ∷
+    k.Session ∷ k.At ∷ k.Times ∷ k.Go ∷ k.Gossip ∷ k.Cut ∷ k.Join ∷ k.Shape ∷ k.Open ∷ k.In ∷
+    k.Call ∷ [])
 
 abbrev pub kind_of_word : List ℕ → Kind
 kind_of_word word = kind_in keyword_kinds word
