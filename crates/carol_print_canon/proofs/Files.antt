@@ -12,179 +12,179 @@ use Rattle.carol_syntax.specs.Shape.{IsCell, IsWhole, IsLiteral, IsNamed, IsOp, 
 use Rattle.carol_syntax_tokens.specs.declared.kind.Kind.TheVariants as k
 use Rattle.carol_print_canon.specs.Pieces.{Token, Space, Break, AreLaidOut}
 use Rattle.carol_print_canon.specs.Canonical.{Pieces, semicolon, int, number, with_commas, concat, formula, cell, inside, guard, param, op, end, program, times, command, session, scene, line, script, part_of, canonical}
-use Rattle.carol_print_canon.proofs.Standing.{Laws, Fits, Stands, any_kind, soft_both, stands_both, named, with_commas_fit, rows_stand}
+use Rattle.carol_print_canon.proofs.Standing.{Fits, Stands, any_kind, soft_both, stands_both, named, with_commas_fit, rows_stand}
 use Rattle.carol_print_canon.proofs.Terms.{number_fits, int_fits}
 use Rattle.carol_print_canon.proofs.Formulas.{formula_fits}
 use Rattle.carol_print_canon.proofs.Cells.{cell_stands}
 use Rattle.carol_print_canon.proofs.Bodies.{line_stands, inside_stands}
+use Rattle.carol_print_canon.proofs.Fixed.{fixed_spelled}
+use Rattle.carol_print_canon.proofs.Numbers.{number_spelled}
 
-module _ (w : Laws) where
-  guard_stands : (g : NamedFormula) → IsNamed g → Stands (guard g)
-  guard_stands g h bytes =
-      (w.fixed k.Guard refl, refl, refl, (named w g.name h.0, refl, refl, (w.fixed k.Colon refl, refl, refl, line_stands w (formula g.formula) (formula_fits w g.formula h.1) bytes)))
+guard_stands : (g : NamedFormula) → IsNamed g → Stands (guard g)
+guard_stands g h bytes =
+    (fixed_spelled k.Guard refl, refl, refl, (named g.name h.0, refl, refl, (fixed_spelled k.Colon refl, refl, refl, line_stands (formula g.formula) (formula_fits g.formula h.1) bytes)))
 
-  param_fits : (p : NamedFormula) → IsNamed p → Fits (param p)
-  param_fits p h bytes soft = (named w p.name h.0, refl, refl, (w.fixed k.Colon refl, refl, refl, formula_fits w p.formula h.1 bytes soft))
+param_fits : (p : NamedFormula) → IsNamed p → Fits (param p)
+param_fits p h bytes soft = (named p.name h.0, refl, refl, (fixed_spelled k.Colon refl, refl, refl, formula_fits p.formula h.1 bytes soft))
 
-  op_stands : (o : OpTree) → IsOp o → Stands (op o)
-  op_stands o h bytes = (
-    w.fixed k.Op refl,
+op_stands : (o : OpTree) → IsOp o → Stands (op o)
+op_stands o h bytes = (
+  fixed_spelled k.Op refl,
+  refl,
+  refl,
+  (
+    named o.name h.0,
     refl,
     refl,
     (
-      named w o.name h.0,
+      fixed_spelled k.Opening refl,
       refl,
-      refl,
-      (
-        w.fixed k.Opening refl,
+      any_kind k.Opening (λ _. refl) _,
+      soft_both (with_commas (map param o.params)) _ bytes (with_commas_fit IsNamed param param_fits o.params h.1) refl (
+        fixed_spelled k.Closing refl,
         refl,
-        any_kind k.Opening (λ _. refl) _,
-        soft_both w (with_commas (map param o.params)) _ bytes (with_commas_fit w IsNamed param param_fits o.params h.1) refl (
-          w.fixed k.Closing refl,
+        refl,
+        (
+          fixed_spelled k.Gives refl,
           refl,
           refl,
-          (
-            w.fixed k.Gives refl,
+          soft_both (formula o.gives) _ bytes (formula_fits o.gives h.2) refl (
+            fixed_spelled k.OpeningBrace refl,
             refl,
             refl,
-            soft_both w (formula o.gives) _ bytes (formula_fits w o.gives h.2) refl (
-              w.fixed k.OpeningBrace refl,
-              refl,
-              refl,
-              stands_both w (inside o.body) _ bytes (inside_stands w o.body h.3) (w.fixed k.ClosingBrace refl, refl, refl, tt),
-            ),
+            stands_both (inside o.body) _ bytes (inside_stands o.body h.3) (fixed_spelled k.ClosingBrace refl, refl, refl, tt),
           ),
         ),
       ),
     ),
-  )
+  ),
+)
 
-  end_stands : Stands end
-  end_stands bytes = (w.fixed k.End refl, refl, refl, tt)
+end_stands : Stands end
+end_stands bytes = (fixed_spelled k.End refl, refl, refl, tt)
 
-  program_stands : (p : ProgramTree) → IsProgram p → Stands (program p)
-  program_stands p h bytes = (
-    w.fixed k.Program refl,
+program_stands : (p : ProgramTree) → IsProgram p → Stands (program p)
+program_stands p h bytes = (
+  fixed_spelled k.Program refl,
+  refl,
+  refl,
+  stands_both (concat (map cell p.cells)) _ bytes (rows_stand IsCell cell (cell_stands) p.cells h.cells) (
+    fixed_spelled k.Invariant refl,
     refl,
     refl,
-    stands_both w (concat (map cell p.cells)) _ bytes (rows_stand w IsCell cell (cell_stands w) p.cells h.cells) (
-      w.fixed k.Invariant refl,
+    soft_both (formula p.invariant) _ bytes (formula_fits p.invariant h.invariant) refl (
+      fixed_spelled k.Semicolon refl,
       refl,
       refl,
-      soft_both w (formula p.invariant) _ bytes (formula_fits w p.invariant h.invariant) refl (
-        w.fixed k.Semicolon refl,
-        refl,
-        refl,
-        stands_both w (concat (map guard p.guards)) _ bytes (rows_stand w IsNamed guard guard_stands p.guards h.guards)
-            (stands_both w (concat (map op p.ops)) _ bytes (rows_stand w IsOp op op_stands p.ops h.ops) (end_stands bytes)),
-      ),
+      stands_both (concat (map guard p.guards)) _ bytes (rows_stand IsNamed guard guard_stands p.guards h.guards)
+          (stands_both (concat (map op p.ops)) _ bytes (rows_stand IsOp op op_stands p.ops h.ops) (end_stands bytes)),
     ),
-  )
+  ),
+)
 
-  times_laid : (b : Bool) (n : ℕ) → IsLiteral n → Fits (if b then [] else (Space ∷ Token k.Times 0 (codes "times") ∷ Space ∷ number n ∷ []))
-  times_laid true n h bytes soft = tt
-  times_laid false n h bytes soft = (w.fixed k.Times refl, refl, refl, number_fits w n h bytes soft)
+times_laid : (b : Bool) (n : ℕ) → IsLiteral n → Fits (if b then [] else (Space ∷ Token k.Times 0 (codes "times") ∷ Space ∷ number n ∷ []))
+times_laid true n h bytes soft = tt
+times_laid false n h bytes soft = (fixed_spelled k.Times refl, refl, refl, number_fits n h bytes soft)
 
-  command_stands : (c : CommandDecl) → IsCommand c → Stands (command c)
-  command_stands c h bytes = (
-    named w c.name h.0,
+command_stands : (c : CommandDecl) → IsCommand c → Stands (command c)
+command_stands c h bytes = (
+  named c.name h.0,
+  refl,
+  refl,
+  (
+    fixed_spelled k.Opening refl,
+    refl,
+    any_kind k.Opening (λ _. refl) _,
+    soft_both (with_commas (map int c.args)) _ bytes (with_commas_fit IsWhole int (int_fits) c.args h.1) refl (
+      fixed_spelled k.Closing refl,
+      refl,
+      any_kind k.Closing (λ _. refl) _,
+      line_stands (times c.times.value) (times_laid (c.times.value == 1) c.times.value h.2) bytes,
+    ),
+  ),
+)
+
+session_stands : (s : SessionDecl) → IsSession s → Stands (session s)
+session_stands s h bytes = (
+  fixed_spelled k.Session refl,
+  refl,
+  refl,
+  (
+    fixed_spelled k.At refl,
     refl,
     refl,
     (
-      w.fixed k.Opening refl,
-      refl,
-      any_kind k.Opening (λ _. refl) _,
-      soft_both w (with_commas (map int c.args)) _ bytes (with_commas_fit w IsWhole int (int_fits w) c.args h.1) refl (
-        w.fixed k.Closing refl,
-        refl,
-        any_kind k.Closing (λ _. refl) _,
-        line_stands w (times c.times.value) (times_laid (c.times.value == 1) c.times.value h.2) bytes,
-      ),
-    ),
-  )
-
-  session_stands : (s : SessionDecl) → IsSession s → Stands (session s)
-  session_stands s h bytes = (
-    w.fixed k.Session refl,
-    refl,
-    refl,
-    (
-      w.fixed k.At refl,
+      number_spelled s.replica.value h.0,
       refl,
       refl,
       (
-        w.numbers s.replica.value h.0,
+        fixed_spelled k.OpeningBrace refl,
         refl,
         refl,
-        (
-          w.fixed k.OpeningBrace refl,
-          refl,
-          refl,
-          stands_both w (concat (map command s.commands)) _ bytes (rows_stand w IsCommand command command_stands s.commands h.1)
-              (w.fixed k.ClosingBrace refl, refl, refl, tt),
-        ),
+        stands_both (concat (map command s.commands)) _ bytes (rows_stand IsCommand command command_stands s.commands h.1)
+            (fixed_spelled k.ClosingBrace refl, refl, refl, tt),
       ),
     ),
-  )
+  ),
+)
 
-  number_line : (n : ℕ) → IsLiteral n → Stands (number n ∷ semicolon ∷ Break ∷ [])
-  number_line n h bytes = (w.numbers n h, refl, refl, (w.fixed k.Semicolon refl, refl, refl, tt))
+number_line : (n : ℕ) → IsLiteral n → Stands (number n ∷ semicolon ∷ Break ∷ [])
+number_line n h bytes = (number_spelled n h, refl, refl, (fixed_spelled k.Semicolon refl, refl, refl, tt))
 
-  scene_stands : (s : SceneDecl) → IsScene s → Stands (scene s)
-  scene_stands s h bytes = (
-    w.fixed k.Scene refl,
+scene_stands : (s : SceneDecl) → IsScene s → Stands (scene s)
+scene_stands s h bytes = (
+  fixed_spelled k.Scene refl,
+  refl,
+  refl,
+  (
+    fixed_spelled k.Replicas refl,
     refl,
     refl,
     (
-      w.fixed k.Replicas refl,
+      number_spelled s.replicas.value h.replicas,
       refl,
       refl,
       (
-        w.numbers s.replicas.value h.replicas,
+        fixed_spelled k.Semicolon refl,
         refl,
         refl,
         (
-          w.fixed k.Semicolon refl,
+          fixed_spelled k.Tries refl,
           refl,
           refl,
           (
-            w.fixed k.Tries refl,
+            number_spelled s.tries.value h.tries,
             refl,
             refl,
             (
-              w.numbers s.tries.value h.tries,
+              fixed_spelled k.Semicolon refl,
               refl,
               refl,
               (
-                w.fixed k.Semicolon refl,
+                fixed_spelled k.Workers refl,
                 refl,
                 refl,
                 (
-                  w.fixed k.Workers refl,
+                  number_spelled s.workers.value h.workers,
                   refl,
                   refl,
                   (
-                    w.numbers s.workers.value h.workers,
+                    fixed_spelled k.Semicolon refl,
                     refl,
                     refl,
                     (
-                      w.fixed k.Semicolon refl,
+                      fixed_spelled k.Gossipers refl,
                       refl,
                       refl,
                       (
-                        w.fixed k.Gossipers refl,
+                        number_spelled s.gossipers.value h.gossipers,
                         refl,
                         refl,
                         (
-                          w.numbers s.gossipers.value h.gossipers,
+                          fixed_spelled k.Semicolon refl,
                           refl,
                           refl,
-                          (
-                            w.fixed k.Semicolon refl,
-                            refl,
-                            refl,
-                            stands_both w (concat (map session s.sessions)) _ bytes (rows_stand w IsSession session session_stands s.sessions h.sessions) (end_stands bytes),
-                          ),
+                          stands_both (concat (map session s.sessions)) _ bytes (rows_stand IsSession session session_stands s.sessions h.sessions) (end_stands bytes),
                         ),
                       ),
                     ),
@@ -196,23 +196,24 @@ module _ (w : Laws) where
         ),
       ),
     ),
-  )
+  ),
+)
 
-  line_laid : (l : ScriptLine) → IsLine l → Stands (line l)
-  line_laid (line_of.Go s) h bytes = (w.fixed k.Go refl, refl, refl, number_line s h bytes)
-  line_laid (line_of.Gossip q r) h bytes = (w.fixed k.Gossip refl, refl, refl, (w.numbers q h.0, refl, refl, number_line r h.1 bytes))
-  line_laid (line_of.Cut q r) h bytes = (w.fixed k.Cut refl, refl, refl, (w.numbers q h.0, refl, refl, number_line r h.1 bytes))
-  line_laid (line_of.Join q r) h bytes = (w.fixed k.Join refl, refl, refl, (w.numbers q h.0, refl, refl, number_line r h.1 bytes))
+line_laid : (l : ScriptLine) → IsLine l → Stands (line l)
+line_laid (line_of.Go s) h bytes = (fixed_spelled k.Go refl, refl, refl, number_line s h bytes)
+line_laid (line_of.Gossip q r) h bytes = (fixed_spelled k.Gossip refl, refl, refl, (number_spelled q h.0, refl, refl, number_line r h.1 bytes))
+line_laid (line_of.Cut q r) h bytes = (fixed_spelled k.Cut refl, refl, refl, (number_spelled q h.0, refl, refl, number_line r h.1 bytes))
+line_laid (line_of.Join q r) h bytes = (fixed_spelled k.Join refl, refl, refl, (number_spelled q h.0, refl, refl, number_line r h.1 bytes))
 
-  script_stands : (ls : List ScriptLine) → AllByRecursion IsLine ls → Stands (script ls)
-  script_stands ls h bytes = (w.fixed k.Script refl, refl, refl, stands_both w (concat (map line ls)) _ bytes (rows_stand w IsLine line line_laid ls h) (end_stands bytes))
+script_stands : (ls : List ScriptLine) → AllByRecursion IsLine ls → Stands (script ls)
+script_stands ls h bytes = (fixed_spelled k.Script refl, refl, refl, stands_both (concat (map line ls)) _ bytes (rows_stand IsLine line line_laid ls h) (end_stands bytes))
 
-  part_stands : {A : Type 0} (P : A → Type 0) (f : A → Pieces) → ((a : A) → P a → Stands (f a)) → (part : Option A) → IfSome part P → Stands (part_of f part)
-  part_stands P f one None h bytes = tt
-  part_stands P f one (Some x) h bytes = one x h bytes
+part_stands : {A : Type 0} (P : A → Type 0) (f : A → Pieces) → ((a : A) → P a → Stands (f a)) → (part : Option A) → IfSome part P → Stands (part_of f part)
+part_stands P f one None h bytes = tt
+part_stands P f one (Some x) h bytes = one x h bytes
 
-  pub canonical_laid : (f : FileTree) → IsFile f → AreLaidOut (canonical f)
-  canonical_laid f h =
-      stands_both w (program f.program) _ [] (program_stands f.program h.program)
-      (stands_both w (part_of scene f.scene) _ [] (part_stands IsScene scene scene_stands f.scene h.scene)
-      (part_stands (AllByRecursion IsLine) script script_stands f.script h.script []))
+pub canonical_laid : (f : FileTree) → IsFile f → AreLaidOut (canonical f)
+canonical_laid f h =
+    stands_both (program f.program) _ [] (program_stands f.program h.program)
+    (stands_both (part_of scene f.scene) _ [] (part_stands IsScene scene scene_stands f.scene h.scene)
+    (part_stands (AllByRecursion IsLine) script script_stands f.script h.script []))

@@ -1,23 +1,17 @@
 -- Pieces that stand by themselves, whatever comes behind them, or whatever lengthens no token.
-use Rattle.std.proofs.Common.{◌≡◌, ◌≤◌, ℕ, Bool, true, false, List, [], ◌∷◌, ◌++◌, length, refl, ◌∙◌, map}
+use Rattle.std.proofs.Common.{◌≡◌, ℕ, Bool, true, false, List, [], ◌∷◌, ◌++◌, refl, ◌∙◌, map}
 use Rattle.std.specs.Prelude.{not, ◌&&◌, ◌==◌}
-use Rattle.std.specs.Fmt.{decimal}
 use Rattle.std.specs.List.{AllByRecursion}
 use Rattle.carol_syntax.specs.declared.places.Ident.{Ident}
-use Rattle.carol_syntax.specs.Limits.{largest, longest_name}
-use Rattle.carol_syntax.specs.Words.{is_word_byte, is_word, is_keyword}
+use Rattle.carol_syntax.specs.Words.{is_word_byte}
 use Rattle.carol_syntax.specs.Shape.{IsName}
 use Rattle.carol_syntax_tokens.specs.declared.kind.Kind.{Kind}
 use Rattle.carol_syntax_tokens.specs.declared.kind.Kind.TheVariants as k
-use Rattle.carol_print_canon.specs.Pieces.{codes_of, Piece, text_of, IsSpelled, AreLaidBefore, ends, ends_before, is_fixed}
+use Rattle.carol_print_canon.specs.Pieces.{text_of, IsSpelled, AreLaidBefore, ends, ends_before}
 use Rattle.carol_print_canon.specs.Canonical.{Pieces, after_commas, with_commas, concat}
-
--- what the crate of pieces promises
-pub record Laws : Type 0 where
-  pub both : (bytes : List ℕ) (first second : List Piece) → AreLaidBefore (text_of second ++ bytes) first → AreLaidBefore bytes second → AreLaidBefore bytes (first ++ second)
-  pub names : (bytes : List ℕ) → is_word bytes ≡ true → length bytes ≤ longest_name → is_keyword bytes ≡ false → IsSpelled k.Name 0 bytes
-  pub numbers : (n : ℕ) → n ≤ largest → IsSpelled k.Number n (decimal n)
-  pub fixed : (kind : Kind) → is_fixed kind ≡ true → IsSpelled kind 0 (codes_of kind)
+use Rattle.carol_print_canon.proofs.Fixed.{fixed_spelled}
+use Rattle.carol_print_canon.proofs.Words.{name_spelled}
+use Rattle.carol_print_canon.proofs.Lists.{laid_before_both}
 
 -- the bytes lengthen no token
 abbrev pub are_soft : List ℕ → Bool
@@ -47,29 +41,28 @@ pub any_kind : (kind : Kind) → ((b : ℕ) → ends kind b ≡ true) → (bytes
 any_kind kind e [] = refl
 any_kind kind e (b ∷ bytes) = e b
 
-module _ (w : Laws) where
-  pub soft_both : (first second : Pieces) (bytes : List ℕ) → Fits first → are_soft (text_of second ++ bytes) ≡ true → AreLaidBefore bytes second → AreLaidBefore bytes (first ++ second)
-  soft_both first second bytes fits soft more = w.both bytes first second (fits (text_of second ++ bytes) soft) more
+pub soft_both : (first second : Pieces) (bytes : List ℕ) → Fits first → are_soft (text_of second ++ bytes) ≡ true → AreLaidBefore bytes second → AreLaidBefore bytes (first ++ second)
+soft_both first second bytes fits soft more = laid_before_both bytes first second (fits (text_of second ++ bytes) soft) more
 
-  pub stands_both : (first second : Pieces) (bytes : List ℕ) → Stands first → AreLaidBefore bytes second → AreLaidBefore bytes (first ++ second)
-  stands_both first second bytes stands more = w.both bytes first second (stands (text_of second ++ bytes)) more
+pub stands_both : (first second : Pieces) (bytes : List ℕ) → Stands first → AreLaidBefore bytes second → AreLaidBefore bytes (first ++ second)
+stands_both first second bytes stands more = laid_before_both bytes first second (stands (text_of second ++ bytes)) more
 
-  pub named : (i : Ident) → IsName i → IsSpelled k.Name 0 i.word
-  named i h = w.names i.word h.0 h.1 h.2
+pub named : (i : Ident) → IsName i → IsSpelled k.Name 0 i.word
+named i h = name_spelled i.word h.0 h.1 h.2
 
-  pub after_commas_fit : {A : Type 0} (P : A → Type 0) (f : A → Pieces) → AllFit P f → (xs : List A) → AllByRecursion P xs → Fits (after_commas (map f xs))
-  after_commas_fit P f one [] h bytes soft = tt
-  after_commas_fit P f one (x ∷ []) h bytes soft =
-      (w.fixed k.Comma refl, refl, refl, soft_both (f x) [] bytes (one x h.0) soft tt)
-  after_commas_fit P f one (x ∷ y ∷ xs) h bytes soft =
-      (w.fixed k.Comma refl, refl, refl, soft_both (f x) (after_commas (map f (y ∷ xs))) bytes (one x h.0) refl (after_commas_fit P f one (y ∷ xs) h.1 bytes soft))
+pub after_commas_fit : {A : Type 0} (P : A → Type 0) (f : A → Pieces) → AllFit P f → (xs : List A) → AllByRecursion P xs → Fits (after_commas (map f xs))
+after_commas_fit P f one [] h bytes soft = tt
+after_commas_fit P f one (x ∷ []) h bytes soft =
+    (fixed_spelled k.Comma refl, refl, refl, soft_both (f x) [] bytes (one x h.0) soft tt)
+after_commas_fit P f one (x ∷ y ∷ xs) h bytes soft =
+    (fixed_spelled k.Comma refl, refl, refl, soft_both (f x) (after_commas (map f (y ∷ xs))) bytes (one x h.0) refl (after_commas_fit P f one (y ∷ xs) h.1 bytes soft))
 
-  pub with_commas_fit : {A : Type 0} (P : A → Type 0) (f : A → Pieces) → AllFit P f → (xs : List A) → AllByRecursion P xs → Fits (with_commas (map f xs))
-  with_commas_fit P f one [] h bytes soft = tt
-  with_commas_fit P f one (x ∷ []) h bytes soft = soft_both (f x) [] bytes (one x h.0) soft tt
-  with_commas_fit P f one (x ∷ y ∷ xs) h bytes soft =
-      soft_both (f x) (after_commas (map f (y ∷ xs))) bytes (one x h.0) refl (after_commas_fit P f one (y ∷ xs) h.1 bytes soft)
+pub with_commas_fit : {A : Type 0} (P : A → Type 0) (f : A → Pieces) → AllFit P f → (xs : List A) → AllByRecursion P xs → Fits (with_commas (map f xs))
+with_commas_fit P f one [] h bytes soft = tt
+with_commas_fit P f one (x ∷ []) h bytes soft = soft_both (f x) [] bytes (one x h.0) soft tt
+with_commas_fit P f one (x ∷ y ∷ xs) h bytes soft =
+    soft_both (f x) (after_commas (map f (y ∷ xs))) bytes (one x h.0) refl (after_commas_fit P f one (y ∷ xs) h.1 bytes soft)
 
-  pub rows_stand : {A : Type 0} (P : A → Type 0) (f : A → Pieces) → AllStand P f → (xs : List A) → AllByRecursion P xs → Stands (concat (map f xs))
-  rows_stand P f one [] h bytes = tt
-  rows_stand P f one (x ∷ xs) h bytes = stands_both (f x) (concat (map f xs)) bytes (one x h.0) (rows_stand P f one xs h.1 bytes)
+pub rows_stand : {A : Type 0} (P : A → Type 0) (f : A → Pieces) → AllStand P f → (xs : List A) → AllByRecursion P xs → Stands (concat (map f xs))
+rows_stand P f one [] h bytes = tt
+rows_stand P f one (x ∷ xs) h bytes = stands_both (f x) (concat (map f xs)) bytes (one x h.0) (rows_stand P f one xs h.1 bytes)

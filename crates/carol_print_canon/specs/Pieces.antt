@@ -72,12 +72,6 @@ AreLaidBefore bytes (Break ∷ pieces) = AreLaidBefore bytes pieces
 abbrev pub AreLaidOut : List Piece → Type 0
 AreLaidOut pieces = AreLaidBefore [] pieces
 
--- the bytes don't lengthen the last of the pieces
-abbrev pub are_apart : List Piece → List ℕ → Bool
-are_apart [] bytes = true
-are_apart (Token kind value spelled ∷ []) bytes = ends_before kind bytes
-are_apart (piece ∷ pieces) bytes = are_apart pieces bytes
-
 -- the lexeme is the piece, in the bytes
 abbrev pub IsPiece : List ℕ → Lexeme → Piece → Type 0
 IsPiece bytes l (Token kind value spelled) = (l.kind ≡ kind) × (l.value ≡ value) × (take (l.to - l.from) (drop l.from bytes) ≡ spelled)
@@ -90,11 +84,6 @@ Spells bytes [] [] = Unit {0}
 Spells bytes [] (piece ∷ pieces) = ⊥
 Spells bytes (l ∷ lexemes) [] = ⊥
 Spells bytes (l ∷ lexemes) (piece ∷ pieces) = IsPiece bytes l piece × Spells bytes lexemes pieces
-
--- the lexemes are two lists, one for each half of the pieces
-abbrev pub SpellsBoth : List ℕ → List Lexeme → List Piece → List Piece → Type 0
-SpellsBoth bytes lexemes first second =
-    (left : List Lexeme) × (right : List Lexeme) × (lexemes ≡ left ++ right) × Spells bytes left first × Spells bytes right second
 
 -- the text of the pieces is cut to its end into their tokens
 abbrev pub CutAgain : List Piece → Type 0
