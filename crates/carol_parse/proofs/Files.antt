@@ -57,7 +57,8 @@ module _ {bytes : List ℕ} where
   unfolding file
   hold_file tail = hold_gives (hold_both hold_program hold_some_stage) (λ p h. whole_of tail p.0 p.1 h.0 h.1)
 
--- the values of the rules that reach themselves fit, at the lowest level, at those above it, and so at each
+-- the values of the rules that reach themselves fit, at the lowest level, at those above it, and so
+-- at each
 hold_lowest : (bytes : List ℕ) (v : Knot) → Holds bytes (lowest_of bytes v) (Fits v)
 hold_lowest bytes literal = hold_atom_literal
 hold_lowest bytes ending = hold_answer

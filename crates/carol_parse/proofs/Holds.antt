@@ -28,7 +28,8 @@ Fits ending end = (plain : List Statement) → AllByRecursion IsStatement plain 
 abbrev pub AllFit : List ℕ → ((v : Knot) → Language Lexeme (KnotValue v)) → Type 0
 AllFit bytes deep = (v : Knot) (ts : List Lexeme) (x : KnotValue v) → AreSpelled bytes ts → deep v ts x → Fits v x
 
--- P holds of the value of each sentence of the rule whose tokens are well spelled, where what stands deeper fits.
+-- P holds of the value of each sentence of the rule whose tokens are well spelled, where what
+-- stands deeper fits.
 pub record Holds (bytes : List ℕ) {A : Type 0} (r : RuleOf A) (P : A → Type 0) : Type 1 where
   pub each : (n : ℕ) (deep : (v : Knot) → Language Lexeme (KnotValue v)) → AllFit bytes deep → (ts : List Lexeme) (v : A)
       → AreSpelled bytes ts → Sentence class_of n deep r ts v → P v

@@ -5,10 +5,10 @@ use std::alloc::AllocError;
 use thiserror::Error;
 
 /// Why a text is not read.
-#[derive(Debug, Drop, Error)]
+#[derive(Clone, Copy, Debug, PartialEq, Eq, Error)]
 pub enum TextError {
-    /// No file goes on with the token here, no token begins with the byte here, or the text ends here and is no file. Line
-    /// and column count from 1, columns in bytes.
+    /// No file goes on with the token here, no token begins with the byte here, or the text ends
+    /// here and is no file. Line and column count from 1, columns in bytes.
     #[error("text {line} {column}")]
     Bad { line: u32, column: u32 },
     /// A limit is passed, and nothing before it or at it is bad.

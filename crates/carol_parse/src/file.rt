@@ -12,7 +12,8 @@ use carol_syntax_tokens::Lexeme;
 
 // A file with a scene, and what stands behind it.
 fn staged(program: ProgramDecl, scene: SceneDecl, sequel: Option<Sequel>, tail: u32) -> File
-    ensures { file_tree result ≡ rules.with_sequel tail (program_tree program) scene (some_sequel_of sequel) }
+    ensures { file_tree result
+        ≡ rules.with_sequel tail (program_tree program) scene (some_sequel_of sequel) }
 {
     match sequel {
         None => File {
@@ -53,7 +54,8 @@ fn make_file(program: ProgramDecl, stage: Option<Stage>, tail: u32) -> File
 /// A file, whose transcript begins behind the offset `tail` if it has one.
 #[tactic(auto, unfolding(carol_syntax_rules::specs::Rules::file))]
 pub(crate) fn file<'a>(reader: &Reader<'_>, tokens: &'a [Lexeme], tail: u32) -> Read<'a, File>
-    ensures { Reads file_tree result (read_by reader.now (rules.file reader.now.bytes.now tail) tokens.now) }
+    ensures { Reads file_tree result
+        (read_by reader.now (rules.file reader.now.bytes.now tail) tokens.now) }
 {
     let (program, rest) = program(reader, tokens)?;
     let (stage, rest) = some_stage(reader, rest)?;

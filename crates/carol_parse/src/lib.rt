@@ -1,7 +1,7 @@
 //! Texts and trees: `tokens` cuts a text, `parse` reads it, `print` writes a tree.
 //!
-//! A text is cut into tokens, these are counted against the limits, and those up to the first limit are read by the rules
-//! of the grammar.
+//! A text is cut into tokens, these are counted against the limits, and those up to the first limit
+//! are read by the rules of the grammar.
 #![tactic(auto)]
 
 mod error;

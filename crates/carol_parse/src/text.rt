@@ -28,7 +28,8 @@ fn bad(at: Span) -> TextError
     }
 }
 
-// What is told where nothing that was read is bad: the limit, if one was passed, or else what is bad at the end.
+// What is told where nothing that was read is bad: the limit, if one was passed, or else what is
+// bad at the end.
 fn end_fault(text: &Lexemes, limit: Option<TextLimit>) -> TextError
     ensures { Says (Err result) (unless_large limit (bad_at text.now.end)) }
 {
@@ -58,7 +59,8 @@ fn tail(stop: Stop) -> u32
 
 // What reading the tokens up to the limit tells.
 fn tell(text: &Lexemes, limit: Option<TextLimit>, read: Read<'_, File>) -> Result<File, TextError>
-    ensures { (reading : Reading Lexeme FileTree) → Reads file_tree read.entry reading → Says result (told text.now limit (ended reading)) }
+    ensures { (reading : Reading Lexeme FileTree) → Reads file_tree read.entry reading
+        → Says result (told text.now limit (ended reading)) }
 {
     match read {
         Ok((file, rest)) => {
@@ -78,10 +80,10 @@ fn tell(text: &Lexemes, limit: Option<TextLimit>, read: Read<'_, File>) -> Resul
     }
 }
 
-/// Reads a text: the only tree of the grammar that it has, within the limits. `Bad` is the place of the first token, or of
-/// the first byte that begins none, with which no file goes on, and the place behind the last byte where the text ends too
-/// early. `TooLarge` is the first limit that is passed; where both stand the earlier place decides, and `Bad` at the same
-/// one.
+/// Reads a text: the only tree of the grammar that it has, within the limits. `Bad` is the place of
+/// the first token, or of the first byte that begins none, with which no file goes on, and the
+/// place behind the last byte where the text ends too early. `TooLarge` is the first limit that is
+/// passed; where both stand the earlier place decides, and `Bad` at the same one.
 pub fn parse(alloc: Global, bytes: &[u8]) -> Result<File, TextError>
     requires { length bytes.now ≤ most_text_bytes }
     ensures means { IsMeant bytes.now result }

@@ -1,5 +1,5 @@
--- A loop that reads one member after another and puts each to what is there: at any turn what is there, with what is still
--- read, is the whole.
+-- A loop that reads one member after another and puts each to what is there: at any turn what is
+-- there, with what is still read, is the whole.
 use Rattle.std.proofs.Common.{◌≡◌, ℕ, suc, ◌+◌, ◌-◌, ◌<◌, Bool, true, cond, List, [], ◌∷◌, fold, refl, ◌∙◌, ap, arith}
 use Rattle.carol_grammar.specs.Reading.{Reading, onward, giving, read_many}
 use Rattle.carol_grammar.specs.Reading.Reading.{got, stuck}

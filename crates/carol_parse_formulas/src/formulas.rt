@@ -45,7 +45,8 @@ fn signed<'a>(reader: &Reader<'_>, tokens: &'a [Lexeme], kind: Kind, sign: Sign)
 
 #[tactic(auto, unfolding(carol_syntax_rules::specs::Rules::comparison))]
 fn comparison<'a>(reader: &Reader<'_>, tokens: &'a [Lexeme]) -> Read<'a, FormulaDecl>
-    ensures { Reads formula_tree result (read_by reader.now (rules.comparison reader.now.bytes.now) tokens.now) }
+    ensures { Reads formula_tree result
+        (read_by reader.now (rules.comparison reader.now.bytes.now) tokens.now) }
 {
     let (left, rest) = term(reader, tokens)?;
     let (sign, rest) = sign(reader, rest)?;
@@ -56,7 +57,8 @@ fn comparison<'a>(reader: &Reader<'_>, tokens: &'a [Lexeme]) -> Read<'a, Formula
 // A literal that no other one stands in.
 #[tactic(auto, unfolding(carol_syntax_rules::specs::Rules::atom_literal))]
 fn atom_literal<'a>(reader: &Reader<'_>, tokens: &'a [Lexeme]) -> Read<'a, FormulaDecl>
-    ensures { Reads formula_tree result (read_by reader.now (rules.atom_literal reader.now.bytes.now) tokens.now) }
+    ensures { Reads formula_tree result
+        (read_by reader.now (rules.atom_literal reader.now.bytes.now) tokens.now) }
 {
     if next_is(tokens, Kind::True) {
         let (_, rest) = word(reader, tokens, Kind::True)?;
@@ -109,7 +111,8 @@ fn denial<'a>(reader: &Reader<'_>, tokens: &'a [Lexeme]) -> Read<'a, FormulaDecl
 // A literal behind an `and`.
 #[cycle(formulas)]
 fn next_literal<'a>(reader: &Reader<'_>, tokens: &'a [Lexeme]) -> Read<'a, FormulaDecl>
-    ensures { Reads formula_tree result (read_by reader.now (rules.behind_word kinds.And (deeper rules.literal)) tokens.now) }
+    ensures { Reads formula_tree result
+        (read_by reader.now (rules.behind_word kinds.And (deeper rules.literal)) tokens.now) }
 {
     let (_, rest) = word(reader, tokens, Kind::And)?;
     literal(reader, rest)
@@ -154,7 +157,8 @@ fn one_of(alloc: Global, left: FormulaDecl, right: FormulaDecl) -> Result<Formul
 // Literals with `and` between them, behind an `or`.
 #[cycle(formulas)]
 fn next_conjunction<'a>(reader: &Reader<'_>, tokens: &'a [Lexeme]) -> Read<'a, FormulaDecl>
-    ensures { Reads formula_tree result (read_by reader.now (rules.behind_word kinds.Or rules.conjunction) tokens.now) }
+    ensures { Reads formula_tree result
+        (read_by reader.now (rules.behind_word kinds.Or rules.conjunction) tokens.now) }
 {
     let (_, rest) = word(reader, tokens, Kind::Or)?;
     conjunction(reader, rest)

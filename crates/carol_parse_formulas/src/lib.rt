@@ -3,8 +3,6 @@
 
 mod formulas;
 mod terms;
-#[cfg(test)]
-mod tests;
 mod values;
 
 pub use formulas::formula;

@@ -14,7 +14,8 @@ use sqlite_items::Items;
 // A value behind a star, where there is one.
 #[tactic(auto, unfolding(carol_syntax_rules::specs::Rules::times_value))]
 fn times_value<'a>(reader: &Reader<'_>, tokens: &'a [Lexeme]) -> Read<'a, Option<ValueDecl>>
-    ensures { Reads (λ v. v) result (read_by reader.now (rules.times_value reader.now.bytes.now) tokens.now) }
+    ensures { Reads (λ v. v) result
+        (read_by reader.now (rules.times_value reader.now.bytes.now) tokens.now) }
 {
     if !next_is(tokens, Kind::Star) {
         return Ok((None, tokens));
@@ -27,7 +28,8 @@ fn times_value<'a>(reader: &Reader<'_>, tokens: &'a [Lexeme]) -> Read<'a, Option
 // A number, or its product with a value, and the place of the number.
 #[tactic(auto, unfolding(carol_syntax_rules::specs::Rules::multiple))]
 fn multiple<'a>(reader: &Reader<'_>, tokens: &'a [Lexeme]) -> Read<'a, (Span, ProductDecl)>
-    ensures { Reads (λ v. v) result (read_by reader.now (rules.multiple reader.now.bytes.now) tokens.now) }
+    ensures { Reads (λ v. v) result
+        (read_by reader.now (rules.multiple reader.now.bytes.now) tokens.now) }
 {
     let (lexeme, rest) = number(reader, tokens)?;
     let (value, rest) = times_value(reader, rest)?;
@@ -42,7 +44,8 @@ fn multiple<'a>(reader: &Reader<'_>, tokens: &'a [Lexeme]) -> Read<'a, (Span, Pr
 // A product, and the place of its first token.
 #[tactic(auto, unfolding(carol_syntax_rules::specs::Rules::product))]
 fn product<'a>(reader: &Reader<'_>, tokens: &'a [Lexeme]) -> Read<'a, (Span, ProductDecl)>
-    ensures { Reads (λ v. v) result (read_by reader.now (rules.product reader.now.bytes.now) tokens.now) }
+    ensures { Reads (λ v. v) result
+        (read_by reader.now (rules.product reader.now.bytes.now) tokens.now) }
 {
     if next_numeral(tokens) {
         return multiple(reader, tokens);
@@ -70,7 +73,8 @@ fn with_sign(minus: bool, product: ProductDecl) -> ProductDecl
 // A product with its sign, behind another one.
 #[tactic(auto, unfolding(carol_syntax_rules::specs::Rules::next_product))]
 fn next_product<'a>(reader: &Reader<'_>, tokens: &'a [Lexeme]) -> Read<'a, ProductDecl>
-    ensures { Reads (λ v. v) result (read_by reader.now (rules.next_product reader.now.bytes.now) tokens.now) }
+    ensures { Reads (λ v. v) result
+        (read_by reader.now (rules.next_product reader.now.bytes.now) tokens.now) }
 {
     if next_is(tokens, Kind::Plus) {
         let (_, rest) = word(reader, tokens, Kind::Plus)?;
@@ -85,7 +89,8 @@ fn next_product<'a>(reader: &Reader<'_>, tokens: &'a [Lexeme]) -> Read<'a, Produ
 // The first product of a term, and the place of its first token or of its sign.
 #[tactic(auto, unfolding(carol_syntax_rules::specs::Rules::first_product))]
 fn first_product<'a>(reader: &Reader<'_>, tokens: &'a [Lexeme]) -> Read<'a, (Span, ProductDecl)>
-    ensures { Reads (λ v. v) result (read_by reader.now (rules.first_product reader.now.bytes.now) tokens.now) }
+    ensures { Reads (λ v. v) result
+        (read_by reader.now (rules.first_product reader.now.bytes.now) tokens.now) }
 {
     if next_is(tokens, Kind::Minus) {
         let (lexeme, rest) = word(reader, tokens, Kind::Minus)?;
@@ -117,7 +122,8 @@ impl Member for NextProduct {
 /// A term: a sum of products.
 #[tactic(auto, unfolding(carol_syntax_rules::specs::Rules::term))]
 pub fn term<'a>(reader: &Reader<'_>, tokens: &'a [Lexeme]) -> Read<'a, TermDecl>
-    ensures { Reads (λ v. v) result (read_by reader.now (rules.term reader.now.bytes.now) tokens.now) }
+    ensures { Reads (λ v. v) result
+        (read_by reader.now (rules.term reader.now.bytes.now) tokens.now) }
 {
     let ((span, first), rest) = first_product(reader, tokens)?;
     let mut front = Items::new(reader.alloc);

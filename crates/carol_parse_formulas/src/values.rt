@@ -29,7 +29,8 @@ fn parts(alloc: Global, first: Ident, second: Option<Ident>) -> Result<IdentList
 // A member's or a field's name behind a dot, where there is one.
 #[tactic(auto, unfolding(carol_syntax_rules::specs::Rules::member))]
 fn member<'a>(reader: &Reader<'_>, tokens: &'a [Lexeme]) -> Read<'a, Option<Ident>>
-    ensures { Reads (λ v. v) result (read_by reader.now (rules.member reader.now.bytes.now) tokens.now) }
+    ensures { Reads (λ v. v) result
+        (read_by reader.now (rules.member reader.now.bytes.now) tokens.now) }
 {
     if !next_is(tokens, Kind::Dot) {
         return Ok((None, tokens));
@@ -42,7 +43,8 @@ fn member<'a>(reader: &Reader<'_>, tokens: &'a [Lexeme]) -> Read<'a, Option<Iden
 /// A path: a name, and a member's or a field's behind a dot.
 #[tactic(auto, unfolding(carol_syntax_rules::specs::Rules::path))]
 pub fn path<'a>(reader: &Reader<'_>, tokens: &'a [Lexeme]) -> Read<'a, PathDecl>
-    ensures { Reads (λ v. v) result (read_by reader.now (rules.path reader.now.bytes.now) tokens.now) }
+    ensures { Reads (λ v. v) result
+        (read_by reader.now (rules.path reader.now.bytes.now) tokens.now) }
 {
     let (first, rest) = name(reader, tokens)?;
     let (second, rest) = member(reader, rest)?;
@@ -53,7 +55,8 @@ pub fn path<'a>(reader: &Reader<'_>, tokens: &'a [Lexeme]) -> Read<'a, PathDecl>
 // A path behind a dot, where there is one.
 #[tactic(auto, unfolding(carol_syntax_rules::specs::Rules::dotted))]
 fn dotted<'a>(reader: &Reader<'_>, tokens: &'a [Lexeme]) -> Read<'a, Option<PathDecl>>
-    ensures { Reads (λ v. v) result (read_by reader.now (rules.dotted reader.now.bytes.now) tokens.now) }
+    ensures { Reads (λ v. v) result
+        (read_by reader.now (rules.dotted reader.now.bytes.now) tokens.now) }
 {
     if !next_is(tokens, Kind::Dot) {
         return Ok((None, tokens));
@@ -80,7 +83,8 @@ fn joined(alloc: Global, first: Ident, path: Option<PathDecl>) -> Result<IdentLi
 
 #[tactic(auto, unfolding(carol_syntax_rules::specs::Rules::plain_value))]
 fn plain_value<'a>(reader: &Reader<'_>, tokens: &'a [Lexeme]) -> Read<'a, ValueDecl>
-    ensures { Reads (λ v. v) result (read_by reader.now (rules.plain_value reader.now.bytes.now) tokens.now) }
+    ensures { Reads (λ v. v) result
+        (read_by reader.now (rules.plain_value reader.now.bytes.now) tokens.now) }
 {
     let (first, rest) = name(reader, tokens)?;
     let span = first.span;
@@ -119,7 +123,8 @@ fn side<'a>(
     kind: ValueKind,
 ) -> Read<'a, ValueDecl>
     requires { side ≢ kinds.Number }
-    ensures { Reads (λ v. v) result (read_by reader.now (rules.side side kind reader.now.bytes.now) tokens.now) }
+    ensures { Reads (λ v. v) result
+        (read_by reader.now (rules.side side kind reader.now.bytes.now) tokens.now) }
 {
     let (lexeme, rest) = word(reader, tokens, side)?;
     let (_, rest) = word(reader, rest, Kind::Dot)?;
@@ -141,7 +146,8 @@ fn sized_side<'a>(
     kind: ValueKind,
 ) -> Read<'a, (ValueKind, PathDecl)>
     requires { side ≢ kinds.Number }
-    ensures { Reads (λ v. v) result (read_by reader.now (rules.sized_side side kind reader.now.bytes.now) tokens.now) }
+    ensures { Reads (λ v. v) result
+        (read_by reader.now (rules.sized_side side kind reader.now.bytes.now) tokens.now) }
 {
     let (_, rest) = word(reader, tokens, side)?;
     let (_, rest) = word(reader, rest, Kind::Dot)?;
@@ -152,7 +158,8 @@ fn sized_side<'a>(
 // What stands between the parentheses of a size.
 #[tactic(auto, unfolding(carol_syntax_rules::specs::Rules::sized))]
 fn sized<'a>(reader: &Reader<'_>, tokens: &'a [Lexeme]) -> Read<'a, (ValueKind, PathDecl)>
-    ensures { Reads (λ v. v) result (read_by reader.now (rules.sized reader.now.bytes.now) tokens.now) }
+    ensures { Reads (λ v. v) result
+        (read_by reader.now (rules.sized reader.now.bytes.now) tokens.now) }
 {
     if next_is(tokens, Kind::Here) {
         return sized_side(reader, tokens, Kind::Here, ValueKind::SizeHere);
@@ -166,7 +173,8 @@ fn sized<'a>(reader: &Reader<'_>, tokens: &'a [Lexeme]) -> Read<'a, (ValueKind, 
 
 #[tactic(auto, unfolding(carol_syntax_rules::specs::Rules::size_value))]
 fn size_value<'a>(reader: &Reader<'_>, tokens: &'a [Lexeme]) -> Read<'a, ValueDecl>
-    ensures { Reads (λ v. v) result (read_by reader.now (rules.size_value reader.now.bytes.now) tokens.now) }
+    ensures { Reads (λ v. v) result
+        (read_by reader.now (rules.size_value reader.now.bytes.now) tokens.now) }
 {
     let (lexeme, rest) = word(reader, tokens, Kind::Size)?;
     let (_, rest) = word(reader, rest, Kind::Opening)?;
@@ -185,7 +193,8 @@ fn size_value<'a>(reader: &Reader<'_>, tokens: &'a [Lexeme]) -> Read<'a, ValueDe
 /// A value of a term.
 #[tactic(auto, unfolding(carol_syntax_rules::specs::Rules::value))]
 pub(crate) fn value<'a>(reader: &Reader<'_>, tokens: &'a [Lexeme]) -> Read<'a, ValueDecl>
-    ensures { Reads (λ v. v) result (read_by reader.now (rules.value reader.now.bytes.now) tokens.now) }
+    ensures { Reads (λ v. v) result
+        (read_by reader.now (rules.value reader.now.bytes.now) tokens.now) }
 {
     if next_is(tokens, Kind::Result) {
         return outcome_value(reader, tokens);

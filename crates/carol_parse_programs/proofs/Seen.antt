@@ -1,5 +1,5 @@
--- A loop that reads one member after another, whose trees are seen as plain data: at any turn what is there, with what is
--- still read, is the whole.
+-- A loop that reads one member after another, whose trees are seen as plain data: at any turn what
+-- is there, with what is still read, is the whole.
 use Rattle.std.proofs.Common.{◌≡◌, ℕ, ◌+◌, ◌-◌, ◌<◌, Bool, true, List, [], ◌∷◌, ◌++◌, map, refl, sym, ◌∙◌, ap}
 use Rattle.carol_grammar.specs.Reading.{Reading, read_many, behind}
 use Rattle.carol_grammar.specs.Reading.Reading.{got}

@@ -13,7 +13,8 @@ use sqlite_items::Boxed;
 
 #[tactic(auto, unfolding(carol_syntax_rules::specs::Rules::answer))]
 fn answer<'a>(reader: &Reader<'_>, tokens: &'a [Lexeme]) -> Read<'a, Last>
-    ensures { Reads end_tree result (read_by reader.now (rules.answer reader.now.bytes.now) tokens.now) }
+    ensures { Reads end_tree result
+        (read_by reader.now (rules.answer reader.now.bytes.now) tokens.now) }
 {
     let (_, rest) = word(reader, tokens, Kind::Return)?;
     let (value, rest) = term(reader, rest)?;
@@ -25,7 +26,8 @@ fn answer<'a>(reader: &Reader<'_>, tokens: &'a [Lexeme]) -> Read<'a, Last>
 #[cycle(bodies)]
 #[tactic(auto, unfolding(carol_syntax_rules::specs::Rules::body))]
 pub fn body<'a>(reader: &Reader<'_>, tokens: &'a [Lexeme]) -> Read<'a, Body>
-    ensures { Reads body_tree result (read_by reader.now (rules.body reader.now.bytes.now) tokens.now) }
+    ensures { Reads body_tree result
+        (read_by reader.now (rules.body reader.now.bytes.now) tokens.now) }
 {
     let (_, rest) = word(reader, tokens, Kind::OpeningBrace)?;
     let (plain, rest) = plains(reader, rest)?;
@@ -49,7 +51,8 @@ fn ending<'a>(reader: &Reader<'_>, tokens: &'a [Lexeme]) -> Read<'a, Last>
 #[cycle(bodies)]
 #[tactic(auto, unfolding(carol_syntax_rules::specs::Rules::choice))]
 fn choice<'a>(reader: &Reader<'_>, tokens: &'a [Lexeme]) -> Read<'a, Last>
-    ensures { Reads end_tree result (read_by reader.now (rules.choice reader.now.bytes.now) tokens.now) }
+    ensures { Reads end_tree result
+        (read_by reader.now (rules.choice reader.now.bytes.now) tokens.now) }
 {
     let (_, rest) = word(reader, tokens, Kind::If)?;
     let (test, rest) = formula(reader, rest)?;

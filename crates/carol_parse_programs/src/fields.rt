@@ -21,7 +21,8 @@ fn whole_kind<'a>(reader: &Reader<'_>, tokens: &'a [Lexeme]) -> Read<'a, FieldKi
 // A flag, and whether it is set at first.
 #[tactic(auto, unfolding(carol_syntax_rules::specs::Rules::flag_field))]
 fn flag_field<'a>(reader: &Reader<'_>, tokens: &'a [Lexeme]) -> Read<'a, FieldDecl>
-    ensures { Reads (λ f. f) result (read_by reader.now (rules.flag_field reader.now.bytes.now) tokens.now) }
+    ensures { Reads (λ f. f) result
+        (read_by reader.now (rules.flag_field reader.now.bytes.now) tokens.now) }
 {
     let (_, rest) = word(reader, tokens, Kind::Flag)?;
     let (name, rest) = name(reader, rest)?;
@@ -35,7 +36,8 @@ fn flag_field<'a>(reader: &Reader<'_>, tokens: &'a [Lexeme]) -> Read<'a, FieldDe
 /// A cell by itself or in a record.
 #[tactic(auto, unfolding(carol_syntax_rules::specs::Rules::field))]
 pub(crate) fn field<'a>(reader: &Reader<'_>, tokens: &'a [Lexeme]) -> Read<'a, FieldDecl>
-    ensures { Reads (λ f. f) result (read_by reader.now (rules.field reader.now.bytes.now) tokens.now) }
+    ensures { Reads (λ f. f) result
+        (read_by reader.now (rules.field reader.now.bytes.now) tokens.now) }
 {
     if next_is(tokens, Kind::Flag) {
         return flag_field(reader, tokens);

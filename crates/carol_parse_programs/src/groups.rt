@@ -10,7 +10,8 @@ use sqlite_items::Items;
 // A set of flags and its members.
 #[tactic(auto, unfolding(carol_syntax_rules::specs::Rules::set_cell))]
 fn set_cell<'a>(reader: &Reader<'_>, tokens: &'a [Lexeme]) -> Read<'a, CellDecl>
-    ensures { Reads (λ c. c) result (read_by reader.now (rules.set_cell reader.now.bytes.now) tokens.now) }
+    ensures { Reads (λ c. c) result
+        (read_by reader.now (rules.set_cell reader.now.bytes.now) tokens.now) }
 {
     let (_, rest) = word(reader, tokens, Kind::Set)?;
     let (name, rest) = name(reader, rest)?;
@@ -24,7 +25,8 @@ fn set_cell<'a>(reader: &Reader<'_>, tokens: &'a [Lexeme]) -> Read<'a, CellDecl>
 // A record and its fields.
 #[tactic(auto, unfolding(carol_syntax_rules::specs::Rules::record_cell))]
 fn record_cell<'a>(reader: &Reader<'_>, tokens: &'a [Lexeme]) -> Read<'a, CellDecl>
-    ensures { Reads (λ c. c) result (read_by reader.now (rules.record_cell reader.now.bytes.now) tokens.now) }
+    ensures { Reads (λ c. c) result
+        (read_by reader.now (rules.record_cell reader.now.bytes.now) tokens.now) }
 {
     let (_, rest) = word(reader, tokens, Kind::Record)?;
     let (name, rest) = name(reader, rest)?;
@@ -40,7 +42,8 @@ fn record_cell<'a>(reader: &Reader<'_>, tokens: &'a [Lexeme]) -> Read<'a, CellDe
 // One declaration.
 #[tactic(auto, unfolding(carol_syntax_rules::specs::Rules::cell))]
 fn cell<'a>(reader: &Reader<'_>, tokens: &'a [Lexeme]) -> Read<'a, CellDecl>
-    ensures { Reads (λ c. c) result (read_by reader.now (rules.cell reader.now.bytes.now) tokens.now) }
+    ensures { Reads (λ c. c) result
+        (read_by reader.now (rules.cell reader.now.bytes.now) tokens.now) }
 {
     if next_is(tokens, Kind::Set) {
         return set_cell(reader, tokens);
@@ -82,7 +85,8 @@ impl Member for OneCell {
 
 /// The declarations that stand here, as many as there are.
 pub fn cells<'a>(reader: &Reader<'_>, tokens: &'a [Lexeme]) -> Read<'a, CellDeclList>
-    ensures { Reads (λ v. v) result (read_by reader.now (rules.cells reader.now.bytes.now) tokens.now) }
+    ensures { Reads (λ v. v) result
+        (read_by reader.now (rules.cells reader.now.bytes.now) tokens.now) }
 {
     many::<OneCell>(reader, Items::new(reader.alloc), tokens)
 }

@@ -11,7 +11,8 @@ use sqlite_items::Items;
 
 #[tactic(auto, unfolding(carol_syntax_rules::specs::Rules::guard))]
 fn guard<'a>(reader: &Reader<'_>, tokens: &'a [Lexeme]) -> Read<'a, GuardDecl>
-    ensures { Reads guard_tree result (read_by reader.now (rules.guard reader.now.bytes.now) tokens.now) }
+    ensures { Reads guard_tree result
+        (read_by reader.now (rules.guard reader.now.bytes.now) tokens.now) }
 {
     let (_, rest) = word(reader, tokens, Kind::Guard)?;
     let (named, rest) = name(reader, rest)?;
@@ -29,7 +30,8 @@ fn guard<'a>(reader: &Reader<'_>, tokens: &'a [Lexeme]) -> Read<'a, GuardDecl>
 
 /// The guards of a program.
 pub(crate) fn guards<'a>(reader: &Reader<'_>, tokens: &'a [Lexeme]) -> Read<'a, GuardDeclList>
-    ensures { Reads (map guard_tree) result (read_by reader.now (rules.guards reader.now.bytes.now) tokens.now) }
+    ensures { Reads (map guard_tree) result
+        (read_by reader.now (rules.guards reader.now.bytes.now) tokens.now) }
 {
     let mut all = Items::new(reader.alloc);
     let mut rest = tokens;

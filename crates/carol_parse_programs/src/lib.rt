@@ -8,7 +8,5 @@ mod guards;
 mod operations;
 mod programs;
 mod statements;
-#[cfg(test)]
-mod tests;
 
 pub use programs::program;

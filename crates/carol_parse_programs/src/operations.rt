@@ -13,7 +13,8 @@ use sqlite_items::Items;
 
 #[tactic(auto, unfolding(carol_syntax_rules::specs::Rules::param))]
 fn param<'a>(reader: &Reader<'_>, tokens: &'a [Lexeme]) -> Read<'a, ParamDecl>
-    ensures { Reads param_tree result (read_by reader.now (rules.param reader.now.bytes.now) tokens.now) }
+    ensures { Reads param_tree result
+        (read_by reader.now (rules.param reader.now.bytes.now) tokens.now) }
 {
     let (named, rest) = name(reader, tokens)?;
     let (_, rest) = word(reader, rest, Kind::Colon)?;
@@ -29,7 +30,8 @@ fn param<'a>(reader: &Reader<'_>, tokens: &'a [Lexeme]) -> Read<'a, ParamDecl>
 
 // A parameter behind a comma.
 fn next_param<'a>(reader: &Reader<'_>, tokens: &'a [Lexeme]) -> Read<'a, ParamDecl>
-    ensures { Reads param_tree result (read_by reader.now (rules.behind_word kinds.Comma (rules.param reader.now.bytes.now)) tokens.now) }
+    ensures { Reads param_tree result (read_by reader.now
+        (rules.behind_word kinds.Comma (rules.param reader.now.bytes.now)) tokens.now) }
 {
     let (_, rest) = word(reader, tokens, Kind::Comma)?;
     param(reader, rest)
@@ -37,7 +39,8 @@ fn next_param<'a>(reader: &Reader<'_>, tokens: &'a [Lexeme]) -> Read<'a, ParamDe
 
 // Parameters with commas between them, at least one.
 fn listed_params<'a>(reader: &Reader<'_>, tokens: &'a [Lexeme]) -> Read<'a, ParamDeclList>
-    ensures { Reads (map param_tree) result (read_by reader.now (rules.listed (rules.param reader.now.bytes.now)) tokens.now) }
+    ensures { Reads (map param_tree) result
+        (read_by reader.now (rules.listed (rules.param reader.now.bytes.now)) tokens.now) }
 {
     let (first, more) = param(reader, tokens)?;
     let mut all = Items::new(reader.alloc);
@@ -56,7 +59,8 @@ fn listed_params<'a>(reader: &Reader<'_>, tokens: &'a [Lexeme]) -> Read<'a, Para
 
 #[tactic(auto, unfolding(carol_syntax_rules::specs::Rules::some_params))]
 fn some_params<'a>(reader: &Reader<'_>, tokens: &'a [Lexeme]) -> Read<'a, ParamDeclList>
-    ensures { Reads (map param_tree) result (read_by reader.now (rules.some_params reader.now.bytes.now) tokens.now) }
+    ensures { Reads (map param_tree) result
+        (read_by reader.now (rules.some_params reader.now.bytes.now) tokens.now) }
 {
     if !next_is(tokens, Kind::Name) {
         return Ok((Items::new(reader.alloc), tokens));
@@ -67,7 +71,8 @@ fn some_params<'a>(reader: &Reader<'_>, tokens: &'a [Lexeme]) -> Read<'a, ParamD
 // Parameters in their parentheses.
 #[tactic(auto, unfolding(carol_syntax_rules::specs::Rules::params))]
 fn params<'a>(reader: &Reader<'_>, tokens: &'a [Lexeme]) -> Read<'a, ParamDeclList>
-    ensures { Reads (map param_tree) result (read_by reader.now (rules.params reader.now.bytes.now) tokens.now) }
+    ensures { Reads (map param_tree) result
+        (read_by reader.now (rules.params reader.now.bytes.now) tokens.now) }
 {
     let (_, rest) = word(reader, tokens, Kind::Opening)?;
     let (params, rest) = some_params(reader, rest)?;
@@ -98,7 +103,8 @@ fn op<'a>(reader: &Reader<'_>, tokens: &'a [Lexeme]) -> Read<'a, OpDecl>
 
 /// The operations of a program.
 pub(crate) fn ops<'a>(reader: &Reader<'_>, tokens: &'a [Lexeme]) -> Read<'a, OpDeclList>
-    ensures { Reads (map op_tree) result (read_by reader.now (rules.ops reader.now.bytes.now) tokens.now) }
+    ensures { Reads (map op_tree) result
+        (read_by reader.now (rules.ops reader.now.bytes.now) tokens.now) }
 {
     let mut all = Items::new(reader.alloc);
     let mut rest = tokens;

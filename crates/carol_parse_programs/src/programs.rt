@@ -14,7 +14,8 @@ use carol_syntax_tokens::{Kind, Lexeme};
 /// The program part of a file, from the word `program` to its `end`.
 #[tactic(auto, unfolding(carol_syntax_rules::specs::Rules::program))]
 pub fn program<'a>(reader: &Reader<'_>, tokens: &'a [Lexeme]) -> Read<'a, ProgramDecl>
-    ensures { Reads program_tree result (read_by reader.now (rules.program reader.now.bytes.now) tokens.now) }
+    ensures { Reads program_tree result
+        (read_by reader.now (rules.program reader.now.bytes.now) tokens.now) }
 {
     let (_, rest) = word(reader, tokens, Kind::Program)?;
     let (cells, rest) = cells(reader, rest)?;

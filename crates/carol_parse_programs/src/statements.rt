@@ -13,7 +13,8 @@ use sqlite_items::Items;
 // What an issue does to a cell.
 #[tactic(auto, unfolding(carol_syntax_rules::specs::Rules::change))]
 fn change<'a>(reader: &Reader<'_>, tokens: &'a [Lexeme]) -> Read<'a, Change>
-    ensures { Reads (λ v. v) result (read_by reader.now (rules.change reader.now.bytes.now) tokens.now) }
+    ensures { Reads (λ v. v) result
+        (read_by reader.now (rules.change reader.now.bytes.now) tokens.now) }
 {
     if next_is(tokens, Kind::PlusEquals) {
         let (_, rest) = word(reader, tokens, Kind::PlusEquals)?;
@@ -37,7 +38,8 @@ fn change<'a>(reader: &Reader<'_>, tokens: &'a [Lexeme]) -> Read<'a, Change>
 // One change of an issue.
 #[tactic(auto, unfolding(carol_syntax_rules::specs::Rules::atom))]
 fn atom<'a>(reader: &Reader<'_>, tokens: &'a [Lexeme]) -> Read<'a, AtomDecl>
-    ensures { Reads (λ v. v) result (read_by reader.now (rules.atom reader.now.bytes.now) tokens.now) }
+    ensures { Reads (λ v. v) result
+        (read_by reader.now (rules.atom reader.now.bytes.now) tokens.now) }
 {
     let (path, rest) = path(reader, tokens)?;
     let (change, rest) = change(reader, rest)?;
@@ -65,7 +67,8 @@ impl Member for OneAtom {
 
 #[tactic(auto, unfolding(carol_syntax_rules::specs::Rules::query))]
 fn query<'a>(reader: &Reader<'_>, tokens: &'a [Lexeme]) -> Read<'a, Statement>
-    ensures { Reads (λ v. v) result (read_by reader.now (rules.query reader.now.bytes.now) tokens.now) }
+    ensures { Reads (λ v. v) result
+        (read_by reader.now (rules.query reader.now.bytes.now) tokens.now) }
 {
     let (_, rest) = word(reader, tokens, Kind::Query)?;
     let (store, rest) = name(reader, rest)?;
@@ -86,7 +89,8 @@ fn release<'a>(reader: &Reader<'_>, tokens: &'a [Lexeme]) -> Read<'a, Statement>
 
 #[tactic(auto, unfolding(carol_syntax_rules::specs::Rules::binding))]
 fn binding<'a>(reader: &Reader<'_>, tokens: &'a [Lexeme]) -> Read<'a, Statement>
-    ensures { Reads (λ v. v) result (read_by reader.now (rules.binding reader.now.bytes.now) tokens.now) }
+    ensures { Reads (λ v. v) result
+        (read_by reader.now (rules.binding reader.now.bytes.now) tokens.now) }
 {
     let (_, rest) = word(reader, tokens, Kind::Let)?;
     let (bound, rest) = name(reader, rest)?;
@@ -98,7 +102,8 @@ fn binding<'a>(reader: &Reader<'_>, tokens: &'a [Lexeme]) -> Read<'a, Statement>
 
 #[tactic(auto, unfolding(carol_syntax_rules::specs::Rules::issue))]
 fn issue<'a>(reader: &Reader<'_>, tokens: &'a [Lexeme]) -> Read<'a, Statement>
-    ensures { Reads (λ v. v) result (read_by reader.now (rules.issue reader.now.bytes.now) tokens.now) }
+    ensures { Reads (λ v. v) result
+        (read_by reader.now (rules.issue reader.now.bytes.now) tokens.now) }
 {
     let (_, rest) = word(reader, tokens, Kind::Issue)?;
     let (atoms, rest) = listed::<OneAtom>(reader, rest)?;
@@ -109,7 +114,8 @@ fn issue<'a>(reader: &Reader<'_>, tokens: &'a [Lexeme]) -> Read<'a, Statement>
 // A statement that another one follows.
 #[tactic(auto, unfolding(carol_syntax_rules::specs::Rules::plain))]
 fn plain<'a>(reader: &Reader<'_>, tokens: &'a [Lexeme]) -> Read<'a, Statement>
-    ensures { Reads (λ v. v) result (read_by reader.now (rules.plain reader.now.bytes.now) tokens.now) }
+    ensures { Reads (λ v. v) result
+        (read_by reader.now (rules.plain reader.now.bytes.now) tokens.now) }
 {
     if next_is(tokens, Kind::Query) {
         return query(reader, tokens);
@@ -147,7 +153,8 @@ impl Member for OneStatement {
 
 /// The statements of a body before its end.
 pub(crate) fn plains<'a>(reader: &Reader<'_>, tokens: &'a [Lexeme]) -> Read<'a, StatementList>
-    ensures { Reads (λ v. v) result (read_by reader.now (rules.plains reader.now.bytes.now) tokens.now) }
+    ensures { Reads (λ v. v) result
+        (read_by reader.now (rules.plains reader.now.bytes.now) tokens.now) }
 {
     many::<OneStatement>(reader, Items::new(reader.alloc), tokens)
 }

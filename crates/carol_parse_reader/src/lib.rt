@@ -1,17 +1,13 @@
 //! Readers of the grammar's smallest rules, and what every reader of a rule promises.
 //!
-//! A reader takes the tokens from a place on, and gives what its rule gives there: the tree and the tokens behind it, or
-//! the tokens from the first on with which the rule does not go on.
+//! A reader takes the tokens from a place on, and gives what its rule gives there: the tree and the
+//! tokens behind it, or the tokens from the first on with which the rule does not go on.
 #![tactic(auto)]
 
 mod lists;
 mod reader;
 mod terminals;
-#[cfg(test)]
-mod tests;
 
-pub use lists::{AfterComma, Member, OneInt, OneName, ints, listed, many, names};
+pub use lists::{Member, OneInt, ints, listed, many, names};
 pub use reader::{Halt, Read, Reader};
-pub use terminals::{
-    bit, digit, int, name, next_among, next_is, next_numeral, num, number, positive, word,
-};
+pub use terminals::{bit, int, name, next_among, next_is, next_numeral, num, number, word};

@@ -37,7 +37,8 @@ pub fn many<'a, M: Member>(
     front: Items<M::Tree>,
     tokens: &'a [Lexeme],
 ) -> Read<'a, Items<M::Tree>>
-    ensures { Reads (λ v. v) result (behind front (read_many reader.now.count (next_in class_of M.starts) (M.reading reader.now) tokens.now)) }
+    ensures { Reads (λ v. v) result (behind front (read_many reader.now.count
+        (next_in class_of M.starts) (M.reading reader.now) tokens.now)) }
 {
     let mut all = front;
     let mut rest = tokens;
@@ -105,7 +106,8 @@ impl Member for OneName {
 
 /// Names with commas between them, at least one.
 pub fn names<'a>(reader: &Reader<'_>, tokens: &'a [Lexeme]) -> Read<'a, IdentList>
-    ensures { Reads (λ v. v) result (read_by reader.now (rules.listed (rules.name reader.now.bytes.now)) tokens.now) }
+    ensures { Reads (λ v. v) result
+        (read_by reader.now (rules.listed (rules.name reader.now.bytes.now)) tokens.now) }
 {
     listed::<OneName>(reader, tokens)
 }

@@ -3,8 +3,9 @@ ghost use Rattle.std.specs.Prelude.{◌≡◌, ◌-◌, ◌<◌};
 use carol_syntax_tokens::Lexeme;
 use std::alloc::{AllocError, Global};
 
-/// What readers share: the whole text, and their bounds. A repetition has at most `count` members, and what reaches itself
-/// goes at most `depth` levels deep; both as many as there are tokens, and one, is enough for any text.
+/// What readers share: the whole text, and their bounds. A repetition has at most `count` members,
+/// and what reaches itself goes at most `depth` levels deep; both as many as there are tokens, and
+/// one, is enough for any text.
 #[derive(Clone, Copy)]
 pub struct Reader<'a> {
     pub alloc: Global,

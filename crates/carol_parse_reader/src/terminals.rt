@@ -60,7 +60,8 @@ pub fn next_numeral(tokens: &[Lexeme]) -> bool
 fn taken(tokens: &[Lexeme], wanted: bool) -> Read<'_, Lexeme>
     ensures first { IfOk result (λ x. tokens.now ≡ x.0 ∷ x.1.now) }
     ensures wanted { IfOk result (λ x. wanted ≡ true) }
-    ensures reads { (kinds : List ℕ) → wanted ≡ next_in class_of kinds tokens.now → Reads (λ l. l) result (read_token class_of kinds (λ l. l) tokens.now) }
+    ensures reads { (kinds : List ℕ) → wanted ≡ next_in class_of kinds tokens.now
+        → Reads (λ l. l) result (read_token class_of kinds (λ l. l) tokens.now) }
 {
     match tokens.split_first() {
         Some((first, rest)) if wanted => Ok((*first, rest)),
@@ -114,7 +115,8 @@ fn spelled<'a>(reader: &Reader<'a>, lexeme: Lexeme) -> &'a [u8]
 /// A name.
 #[tactic(auto, unfolding(carol_syntax_rules::specs::Rules::name))]
 pub fn name<'a>(reader: &Reader<'_>, tokens: &'a [Lexeme]) -> Read<'a, Ident>
-    ensures { Reads (λ i. i) result (read_by reader.now (rules.name reader.now.bytes.now) tokens.now) }
+    ensures { Reads (λ i. i) result
+        (read_by reader.now (rules.name reader.now.bytes.now) tokens.now) }
 {
     let (lexeme, rest) = word(reader, tokens, Kind::Name)?;
     let word = Word::new(reader.alloc, spelled(reader, lexeme))?;

@@ -60,7 +60,8 @@ fn times_or_once(name: &Ident, found: Option<Num>) -> Num
 // A command.
 #[tactic(auto, unfolding(carol_syntax_rules::specs::Rules::command))]
 fn command<'a>(reader: &Reader<'_>, tokens: &'a [Lexeme]) -> Read<'a, CommandDecl>
-    ensures { Reads (λ c. c) result (read_by reader.now (rules.command reader.now.bytes.now) tokens.now) }
+    ensures { Reads (λ c. c) result
+        (read_by reader.now (rules.command reader.now.bytes.now) tokens.now) }
 {
     let (name, rest) = name(reader, tokens)?;
     let (args, rest) = arguments(reader, rest)?;
@@ -91,7 +92,8 @@ impl Member for OneCommand {
 
 /// The commands that stand here, as many as there are.
 pub(crate) fn commands<'a>(reader: &Reader<'_>, tokens: &'a [Lexeme]) -> Read<'a, CommandDeclList>
-    ensures { Reads (λ v. v) result (read_by reader.now (rules.commands reader.now.bytes.now) tokens.now) }
+    ensures { Reads (λ v. v) result
+        (read_by reader.now (rules.commands reader.now.bytes.now) tokens.now) }
 {
     many::<OneCommand>(reader, Items::new(reader.alloc), tokens)
 }

@@ -5,7 +5,5 @@ mod commands;
 mod scripts;
 mod sessions;
 mod stages;
-#[cfg(test)]
-mod tests;
 
 pub use stages::{Sequel, Stage, some_stage};

@@ -13,7 +13,8 @@ use sqlite_items::Items;
 // A session at a replica.
 #[tactic(auto, unfolding(carol_syntax_rules::specs::Rules::session))]
 fn session<'a>(reader: &Reader<'_>, tokens: &'a [Lexeme]) -> Read<'a, SessionDecl>
-    ensures { Reads (λ s. s) result (read_by reader.now (rules.session reader.now.bytes.now) tokens.now) }
+    ensures { Reads (λ s. s) result
+        (read_by reader.now (rules.session reader.now.bytes.now) tokens.now) }
 {
     let (head, rest) = word(reader, tokens, Kind::Session)?;
     let (_, rest) = word(reader, rest, Kind::At)?;
@@ -53,7 +54,8 @@ impl Member for OneSession {
 
 /// The sessions that stand here, as many as there are.
 pub(crate) fn sessions<'a>(reader: &Reader<'_>, tokens: &'a [Lexeme]) -> Read<'a, SessionDeclList>
-    ensures { Reads (λ v. v) result (read_by reader.now (rules.sessions reader.now.bytes.now) tokens.now) }
+    ensures { Reads (λ v. v) result
+        (read_by reader.now (rules.sessions reader.now.bytes.now) tokens.now) }
 {
     many::<OneSession>(reader, Items::new(reader.alloc), tokens)
 }

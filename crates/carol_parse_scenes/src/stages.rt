@@ -38,7 +38,8 @@ fn setting<'a>(reader: &Reader<'_>, tokens: &'a [Lexeme], kind: Kind) -> Read<'a
 // A scene by itself.
 #[tactic(auto, unfolding(carol_syntax_rules::specs::Rules::scene))]
 fn scene<'a>(reader: &Reader<'_>, tokens: &'a [Lexeme]) -> Read<'a, SceneDecl>
-    ensures { Reads (λ s. s) result (read_by reader.now (rules.scene reader.now.bytes.now) tokens.now) }
+    ensures { Reads (λ s. s) result
+        (read_by reader.now (rules.scene reader.now.bytes.now) tokens.now) }
 {
     let (_, rest) = word(reader, tokens, Kind::Scene)?;
     let (replicas, rest) = setting(reader, rest, Kind::Replicas)?;
@@ -84,7 +85,8 @@ fn some_sequel<'a>(reader: &Reader<'_>, tokens: &'a [Lexeme]) -> Read<'a, Option
 
 #[tactic(auto, unfolding(carol_syntax_rules::specs::Rules::staged))]
 fn staged<'a>(reader: &Reader<'_>, tokens: &'a [Lexeme]) -> Read<'a, Stage>
-    ensures { Reads stage_of result (read_by reader.now (rules.staged reader.now.bytes.now) tokens.now) }
+    ensures { Reads stage_of result
+        (read_by reader.now (rules.staged reader.now.bytes.now) tokens.now) }
 {
     let (scene, rest) = scene(reader, tokens)?;
     let (sequel, rest) = some_sequel(reader, rest)?;
@@ -94,7 +96,8 @@ fn staged<'a>(reader: &Reader<'_>, tokens: &'a [Lexeme]) -> Read<'a, Stage>
 /// A scene and what stands behind it, where there is one.
 #[tactic(auto, unfolding(carol_syntax_rules::specs::Rules::some_stage))]
 pub fn some_stage<'a>(reader: &Reader<'_>, tokens: &'a [Lexeme]) -> Read<'a, Option<Stage>>
-    ensures { Reads some_stage_of result (read_by reader.now (rules.some_stage reader.now.bytes.now) tokens.now) }
+    ensures { Reads some_stage_of result
+        (read_by reader.now (rules.some_stage reader.now.bytes.now) tokens.now) }
 {
     if !next_is(tokens, Kind::Scene) {
         return Ok((None, tokens));

@@ -75,7 +75,8 @@ impl Printed for Statement {
 
 /// Appends the lines between the braces of a body.
 pub fn push_inside(out: &mut Vec<u8>, body: &Body) -> Result<(), AllocError>
-    ensures { OnOk result (out.new.items ≡ out.old.items ++ text_of (canon.inside (body_tree body.now))) }
+    ensures { OnOk result
+        (out.new.items ≡ out.old.items ++ text_of (canon.inside (body_tree body.now))) }
 {
     push_all(out, body.plain.as_slice())?;
     match body.last.get() {

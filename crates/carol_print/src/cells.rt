@@ -8,7 +8,8 @@ use std::alloc::AllocError;
 
 // Appends the word of a kind of cells and a space.
 fn push_kind(out: &mut Vec<u8>, kind: FieldKind) -> Result<(), AllocError>
-    ensures { OnOk result (out.new.items ≡ out.old.items ++ text_of (canon.field_kind kind ∷ Space ∷ [])) }
+    ensures { OnOk result
+        (out.new.items ≡ out.old.items ++ text_of (canon.field_kind kind ∷ Space ∷ [])) }
 {
     match kind {
         FieldKind::Counter => push_text(out, "counter "),

@@ -21,7 +21,8 @@ fn is_either(formula: &FormulaDecl) -> bool
 
 // The formula is an `or` or an `and`.
 fn is_joined(formula: &FormulaDecl) -> bool
-    ensures { result ≡ (canon.is_either (formula_tree formula.now) || canon.is_both (formula_tree formula.now)) }
+    ensures { result
+        ≡ (canon.is_either (formula_tree formula.now) || canon.is_both (formula_tree formula.now)) }
 {
     match formula {
         FormulaDecl::Or(_, _) | FormulaDecl::And(_, _) => true,
@@ -45,7 +46,8 @@ fn push_closing(out: &mut Vec<u8>, needed: bool) -> Result<(), AllocError>
 
 // Appends the sign of a comparison, and a space on either side.
 fn push_sign(out: &mut Vec<u8>, sign: Sign) -> Result<(), AllocError>
-    ensures { OnOk result (out.new.items ≡ out.old.items ++ text_of (Space ∷ canon.sign sign ∷ Space ∷ [])) }
+    ensures { OnOk result
+        (out.new.items ≡ out.old.items ++ text_of (Space ∷ canon.sign sign ∷ Space ∷ [])) }
 {
     match sign {
         Sign::AtMost => push_text(out, " <= "),
@@ -59,7 +61,8 @@ fn push_sign(out: &mut Vec<u8>, sign: Sign) -> Result<(), AllocError>
 
 /// Appends a formula, in parentheses only the parts that need them.
 pub fn push_formula(out: &mut Vec<u8>, formula: &FormulaDecl) -> Result<(), AllocError>
-    ensures { OnOk result (out.new.items ≡ out.old.items ++ text_of (canon.formula (formula_tree formula.now))) }
+    ensures { OnOk result
+        (out.new.items ≡ out.old.items ++ text_of (canon.formula (formula_tree formula.now))) }
 {
     match formula {
         FormulaDecl::True => push_text(out, "true"),

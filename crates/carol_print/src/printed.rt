@@ -40,7 +40,8 @@ pub fn push_text(out: &mut Vec<u8>, text: &str) -> Result<(), AllocError>
 
 /// Appends the texts with commas between them.
 pub fn push_with_commas<T: Printed>(out: &mut Vec<u8>, items: &[T]) -> Result<(), AllocError>
-    ensures { OnOk result (out.new.items ≡ out.old.items ++ text_of (with_commas (map T.pieces items.now))) }
+    ensures { OnOk result
+        (out.new.items ≡ out.old.items ++ text_of (with_commas (map T.pieces items.now))) }
 {
     let Some((first, more)) = items.split_first() else {
         return Ok(());
@@ -55,7 +56,8 @@ pub fn push_with_commas<T: Printed>(out: &mut Vec<u8>, items: &[T]) -> Result<()
 
 /// Appends the texts one behind the other.
 pub fn push_all<T: Printed>(out: &mut Vec<u8>, items: &[T]) -> Result<(), AllocError>
-    ensures { OnOk result (out.new.items ≡ out.old.items ++ text_of (concat (map T.pieces items.now))) }
+    ensures { OnOk result
+        (out.new.items ≡ out.old.items ++ text_of (concat (map T.pieces items.now))) }
 {
     for item in items {
         item.push_to(out)?;

@@ -51,7 +51,8 @@ impl Printed for OpDecl {
 
 /// Appends the program part of a file.
 pub fn push_program(out: &mut Vec<u8>, program: &ProgramDecl) -> Result<(), AllocError>
-    ensures { OnOk result (out.new.items ≡ out.old.items ++ text_of (canon.program (program_tree program.now))) }
+    ensures { OnOk result
+        (out.new.items ≡ out.old.items ++ text_of (canon.program (program_tree program.now))) }
 {
     push_text(out, "program\n")?;
     push_all(out, program.cells.as_slice())?;

@@ -47,7 +47,8 @@ impl Printed for SessionDecl {
 
 // Appends a line of a word and a number; the word brings its space.
 fn push_setting(out: &mut Vec<u8>, word: &str, number: u64) -> Result<(), AllocError>
-    ensures { OnOk result (out.new.items ≡ out.old.items ++ (word.now ++ (decimal number ++ codes ";\n"))) }
+    ensures { OnOk result
+        (out.new.items ≡ out.old.items ++ (word.now ++ (decimal number ++ codes ";\n"))) }
 {
     push_text(out, word)?;
     push_integer(out, number)?;
@@ -70,7 +71,8 @@ pub fn push_scene(out: &mut Vec<u8>, scene: &SceneDecl) -> Result<(), AllocError
 
 // Appends a line of a word and two numbers; the word brings its space.
 fn push_pair(out: &mut Vec<u8>, word: &str, first: u64, second: u64) -> Result<(), AllocError>
-    ensures { OnOk result (out.new.items ≡ out.old.items ++ (word.now ++ (decimal first ++ (codes " " ++ (decimal second ++ codes ";\n"))))) }
+    ensures { OnOk result (out.new.items ≡ out.old.items
+        ++ (word.now ++ (decimal first ++ (codes " " ++ (decimal second ++ codes ";\n"))))) }
 {
     push_text(out, word)?;
     push_integer(out, first)?;

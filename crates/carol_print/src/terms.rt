@@ -24,7 +24,8 @@ pub fn push_path(out: &mut Vec<u8>, parts: &[Ident]) -> Result<(), AllocError>
 
 // Appends the names behind a word with its dot.
 fn push_led(out: &mut Vec<u8>, word: &str, parts: &[Ident]) -> Result<(), AllocError>
-    ensures { OnOk result (out.new.items ≡ out.old.items ++ (word.now ++ text_of (canon.path parts.now))) }
+    ensures { OnOk result
+        (out.new.items ≡ out.old.items ++ (word.now ++ text_of (canon.path parts.now))) }
 {
     push_text(out, word)?;
     push_path(out, parts)
@@ -32,7 +33,8 @@ fn push_led(out: &mut Vec<u8>, word: &str, parts: &[Ident]) -> Result<(), AllocE
 
 // Appends `size` of the names behind a word.
 fn push_sized(out: &mut Vec<u8>, word: &str, parts: &[Ident]) -> Result<(), AllocError>
-    ensures { OnOk result (out.new.items ≡ out.old.items ++ (codes "size(" ++ (word.now ++ (text_of (canon.path parts.now) ++ codes ")")))) }
+    ensures { OnOk result (out.new.items ≡ out.old.items
+        ++ (codes "size(" ++ (word.now ++ (text_of (canon.path parts.now) ++ codes ")")))) }
 {
     push_text(out, "size(")?;
     push_led(out, word, parts)?;
@@ -76,7 +78,8 @@ fn push_product(out: &mut Vec<u8>, product: &ProductDecl) -> Result<(), AllocErr
 
 // Appends the first product with its sign.
 fn push_first(out: &mut Vec<u8>, product: &ProductDecl) -> Result<(), AllocError>
-    ensures { OnOk result (out.new.items ≡ out.old.items ++ text_of (canon.first_sign product.now.minus ++ canon.product product.now)) }
+    ensures { OnOk result (out.new.items ≡ out.old.items
+        ++ text_of (canon.first_sign product.now.minus ++ canon.product product.now)) }
 {
     if product.minus {
         push_text(out, "-")?;
@@ -87,7 +90,8 @@ fn push_first(out: &mut Vec<u8>, product: &ProductDecl) -> Result<(), AllocError
 
 // Appends a further product behind its sign.
 fn push_next(out: &mut Vec<u8>, product: &ProductDecl) -> Result<(), AllocError>
-    ensures { OnOk result (out.new.items ≡ out.old.items ++ text_of (Space ∷ canon.added_sign product.now.minus ∷ Space ∷ canon.product product.now)) }
+    ensures { OnOk result (out.new.items ≡ out.old.items ++ text_of
+        (Space ∷ canon.added_sign product.now.minus ∷ Space ∷ canon.product product.now)) }
 {
     if product.minus {
         push_text(out, " - ")?;

@@ -35,7 +35,8 @@ fn push_script_part(out: &mut Vec<u8>, part: &Option<ScriptLineList>) -> Result<
 
 /// Appends the parts of a file.
 pub fn push_file(out: &mut Vec<u8>, file: &File) -> Result<(), AllocError>
-    ensures { OnOk result (out.new.items ≡ out.old.items ++ text_of (canonical (file_tree file.now))) }
+    ensures { OnOk result
+        (out.new.items ≡ out.old.items ++ text_of (canonical (file_tree file.now))) }
 {
     push_program(out, &file.program)?;
     push_scene_part(out, &file.scene)?;
@@ -43,13 +44,14 @@ pub fn push_file(out: &mut Vec<u8>, file: &File) -> Result<(), AllocError>
     Ok(())
 }
 
-/// The canonical text of a file whose tree is one of the grammar: its program, its scene and its script. A transcript
-/// is no part of it.
+/// The canonical text of a file whose tree is one of the grammar: its program, its scene and its
+/// script. A transcript is no part of it.
 pub fn print(alloc: Global, file: &File) -> Result<Vec<u8>, AllocError>
     requires { IsFile (file_tree file.now) }
     ensures text { IfOk result (λ text. text.items ≡ text_of (canonical (file_tree file.now))) }
 
-    // The text is a file with the same tree, and reading it gives that tree unless it passes a limit.
+    // The text is a file with the same tree, and reading it gives that tree unless it passes a
+    // limit.
     ensures file { IfOk result (λ text. IsTextOf text.items (file_tree file.now)) }
     ensures read_back { IfOk result (λ text. IsReadBack text.items (file_tree file.now)) }
 {

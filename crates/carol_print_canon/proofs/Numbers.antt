@@ -1,4 +1,5 @@
--- Numbers: they are the same number before bytes that don't lengthen them, and each is spelled in decimal.
+-- Numbers: they are the same number before bytes that don't lengthen them, and each is spelled in
+-- decimal.
 use Rattle.std.proofs.Common.{◌≡◌, ℕ, suc, ◌-◌, ◌<◌, ◌≤◌, true, false, cond, List, [], ◌∷◌, ◌++◌, length, refl, sym, ap, subst, arith, ◌∙◌, Result, Ok, Err, length-append}
 use Rattle.std.specs.Prelude.{None, decimal}
 use Rattle.std.specs.Char.{is_ascii_digit}

@@ -1,5 +1,5 @@
--- The canonical text of a file, as pieces: each declaration, statement, session head, command and line of a script stands
--- on a line of its own.
+-- The canonical text of a file, as pieces: each declaration, statement, session head, command and
+-- line of a script stands on a line of its own.
 use Rattle.std.specs.Prelude.{ℕ, suc, ℤ, pos, negsuc, Bool, true, false, ◌||◌, ◌==◌, List, [], ◌∷◌, ◌++◌, Option, Some, None, map, if◌then◌else◌}
 use Rattle.std.specs.Fmt.{decimal}
 use Rattle.carol_syntax.specs.declared.places.Ident.{Ident}

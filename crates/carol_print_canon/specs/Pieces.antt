@@ -59,8 +59,8 @@ abbrev pub ends_before : Kind → List ℕ → Bool
 ends_before kind [] = true
 ends_before kind (b ∷ bytes) = ends kind b
 
--- each token is spelled as one, none is `transcript`, and none is lengthened by what stands right behind it; the bytes
--- stand behind the pieces
+-- each token is spelled as one, none is `transcript`, and none is lengthened by what stands right
+-- behind it; the bytes stand behind the pieces
 abbrev pub AreLaidBefore : List ℕ → List Piece → Type 0
 AreLaidBefore bytes [] = Unit {0}
 AreLaidBefore bytes (Token kind value spelled ∷ pieces) =

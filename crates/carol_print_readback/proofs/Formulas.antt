@@ -14,7 +14,8 @@ use Rattle.carol_print_canon.specs.Canonical as text
 use Rattle.carol_print_readback.proofs.Reached.{Same, Reaches, onto, onto-append, reach_along, reach_word, reach_gives, reach_both, reach_left, reach_right, reach_begins, reach_deeper, reach_behind, reach_before, reach_end, reach_folded}
 use Rattle.carol_print_readback.proofs.Terms.{reach_term}
 
--- The text of a formula is one, and where it is no `or`, a conjunction, and where it is no `and` either, a literal.
+-- The text of a formula is one, and where it is no `or`, a conjunction, and where it is no `and`
+-- either, a literal.
 record Spelled (bytes : List ℕ) (f : FormulaTree) : Type 0 where
   whole : (us : List Piece) → Reaches bytes formula (onto (text.formula f) us) us (Same unplaced_formula f)
   joined : text.is_either f ≡ false → (us : List Piece) → Reaches bytes conjunction (onto (text.formula f) us) us (Same unplaced_formula f)

@@ -1,4 +1,5 @@
--- What a list of tokens is reached by: a sentence of a rule at its front, and a list that spells the pieces behind it.
+-- What a list of tokens is reached by: a sentence of a rule at its front, and a list that spells
+-- the pieces behind it.
 use Rattle.std.proofs.Common.{◌≡◌, ℕ, zero, suc, ◌+◌, Bool, true, false, eqb, List, [], ◌∷◌, ◌++◌, Option, refl, sym, ◌∙◌, ap, subst, inl, inr, arith, append_assoc}
 use Rattle.std.proofs.lemmas.List.{append-nil}
 use Rattle.std.proofs.lemmas.Bool.Decides.{nat_tests}
@@ -131,7 +132,8 @@ module _ (bytes : List ℕ) where
         (upper (carol bytes) v) x a p.1,
   )
 
-  -- A sentence of the rule with such a value stands at the front of the tokens, and what is behind it spells the rest.
+  -- A sentence of the rule with such a value stands at the front of the tokens, and what is behind
+  -- it spells the rest.
   pub record Reached {A : Type 0} (r : RuleOf A) (us : List Piece) (P : A → Type 0) (list : List Lexeme) : Type 0 where
     pub front : List Lexeme
     pub back : List Lexeme
@@ -141,7 +143,8 @@ module _ (bytes : List ℕ) where
     pub fits : P value
     pub left : Spells bytes back us
 
-  -- the pieces begin with those of a sentence of the rule with such a value, and the others are left
+  -- the pieces begin with those of a sentence of the rule with such a value, and the others are
+  -- left
   pub record Reaches {A : Type 0} (r : RuleOf A) (ts us : List Piece) (P : A → Type 0) : Type 0 where
     pub at : (list : List Lexeme) → Spells bytes list ts → Reached r us P list
 
@@ -162,7 +165,8 @@ module _ {bytes : List ℕ} where
     };
   }
 
-  -- What is reached by two rules, one behind the other, is reached by a third where their sentences together are its own.
+  -- What is reached by two rules, one behind the other, is reached by a third where their sentences
+  -- together are its own.
   reach_joined : {A B C : Type 0} {r : RuleOf A} {s : RuleOf B} {t : RuleOf C} {ts us vs : List Piece} {P : A → Type 0} {Q : B → Type 0}
       {R : C → Type 0} (f : A → B → C) → Reaches bytes r ts us P → Reaches bytes s us vs Q
       → ((x y : List Lexeme) (a : A) (b : B) → Says bytes r x a → Says bytes s y b → Says bytes t (x ++ y) (f a b))

@@ -16,6 +16,7 @@ without_tail f = record f { tail = None }
 abbrev pub IsReadAs : List ℕ → ℕ → List Lexeme → FileTree → Type 0
 IsReadAs bytes tail list f = (g : FileTree) × IsFileOf bytes tail list g × SameButPlaces g (without_tail f)
 
--- of each tree of the grammar: in any bytes, the tokens that its canonical text spells are read as the tree
+-- of each tree of the grammar: in any bytes, the tokens that its canonical text spells are read as
+-- the tree
 abbrev pub CanonicalIsRead : Type 0
 CanonicalIsRead = (f : FileTree) → IsFile f → (bytes : List ℕ) (tail : ℕ) (list : List Lexeme) → Spells bytes list (tokens_in (canonical f)) → IsReadAs bytes tail list f

@@ -1,12 +1,14 @@
 //! The canonical text of a file spells tokens that are that file again.
 //!
-//! `specs/Spelled` has the law. Its proof follows the rules of the grammar in their order: at the front of the tokens that
-//! a part of the canonical text spells stands a sentence of the part's rule, whose value is the part but for places.
+//! `specs/Spelled` has the law. Its proof follows the rules of the grammar in their order: at the
+//! front of the tokens that a part of the canonical text spells stands a sentence of the part's
+//! rule, whose value is the part but for places.
 #![tactic(auto)]
 
 ghost use Rattle.carol_print_readback.specs.Spelled.{CanonicalIsRead};
 
-/// The tokens that a file's canonical text spells are a file with the same tree, but for places and a transcript.
+/// The tokens that a file's canonical text spells are a file with the same tree, but for places and
+/// a transcript.
 pub fn canonical_is_read()
     ensures { CanonicalIsRead }
 {}

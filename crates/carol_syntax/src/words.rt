@@ -37,15 +37,3 @@ impl Word {
         self.bytes.as_slice()
     }
 }
-
-#[cfg(test)]
-mod tests {
-    use super::*;
-
-    #[test]
-    fn a_word_is_its_bytes(rt: HostRuntime) -> Result<(), AllocError> {
-        let word = Word::new(rt.alloc(), b"adda")?;
-        assert!(rt; word.bytes() == b"adda".as_slice());
-        Ok(())
-    }
-}

@@ -1,4 +1,5 @@
--- Which limits a text passes, and where. The counts are over the tokens up to one, the latest first.
+-- Which limits a text passes, and where. The counts are over the tokens up to one, the latest
+-- first.
 use Rattle.std.specs.Prelude.{◌≡◌, ℕ, ◌+◌, ◌-◌, ◌<◌, ◌≤◌, Bool, true, false, not, ◌&&◌, ◌||◌, nat_le, if◌then◌else◌, ◌⊎◌, List, [], ◌∷◌, ◌++◌, length, reverse, Option, Some, None}
 use Rattle.carol_syntax.specs.Limits.{most_program_bytes, most_formula_nodes, most_body_depth, most_script_lines}
 use Rattle.carol_syntax_tokens.specs.declared.kind.Kind.{Kind}
@@ -29,7 +30,8 @@ abbrev pub is_size : Option Kind → Bool
 is_size (Some k.Size) = true
 is_size _ = false
 
--- behind a token of this kind, with these two before it, a formula or a term begins, or none goes on
+-- behind a token of this kind, with these two before it, a formula or a term begins, or none goes
+-- on
 unfoldable pub counts_anew : Kind → Option Kind → Option Kind → Bool
 counts_anew k.Equals last before = is_name last && is_let before
 counts_anew k.Colon last before = true

@@ -58,8 +58,8 @@ pub record IsBadEnd (bytes : List ℕ) (parts : Lexemes) (at : Place) : Type 0 w
   pub none : (is_broken parts.stop ≡ true) ⊎ ((f : FileTree) → IsFileIn bytes parts f → ⊥)
   pub place : at ≡ parts.end
 
--- here stands the first token, or the first byte that begins none, with which no file goes on, or here the text ends
--- and is none
+-- here stands the first token, or the first byte that begins none, with which no file goes on, or
+-- here the text ends and is none
 abbrev pub IsBadIn : List ℕ → Lexemes → Place → Type 0
 IsBadIn bytes parts at = IsBadToken bytes parts at ⊎ IsBadEnd bytes parts at
 
@@ -95,7 +95,7 @@ Means bytes outcome = (parts : Lexemes) × AreParts bytes parts × MeansIn bytes
 abbrev pub IsText : List ℕ → FileTree → Type 0
 IsText bytes f = (parts : Lexemes) × AreParts bytes parts × IsTextIn bytes parts f
 
--- the place of the first token, or of the first byte that begins none, with which no file goes on, or of the end of a
--- text that is no file
+-- the place of the first token, or of the first byte that begins none, with which no file goes on,
+-- or of the end of a text that is no file
 abbrev pub IsBadAt : List ℕ → Place → Type 0
 IsBadAt bytes at = (parts : Lexemes) × AreParts bytes parts × IsBadIn bytes parts at

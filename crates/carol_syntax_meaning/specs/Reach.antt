@@ -19,7 +19,8 @@ abbrev pub NoneIsOver : List Lexeme → Type 0
 NoneIsOver [] = Unit {0}
 NoneIsOver (t ∷ before) = ((limit : TextLimit) → counted limit (t ∷ before) ≤ most limit) × NoneIsOver before
 
--- the token with this number is the first that is over a limit, and the limit the first in the order that it is over
+-- the token with this number is the first that is over a limit, and the limit the first in the
+-- order that it is over
 pub record IsFirstOver (list : List Lexeme) (passed : Passed) : Type 0 where
   pub before : List Lexeme
   pub token : Lexeme

@@ -24,15 +24,18 @@ pub fn one_text()
 
 /// A text is bad at one place at most, and a file at none.
 pub fn one_bad()
-    ensures place { (bytes : List ℕ) (at other : Place) → IsBadAt bytes at → IsBadAt bytes other → at ≡ other }
-    ensures none { (bytes : List ℕ) (f : FileTree) (at : Place) → IsText bytes f → IsBadAt bytes at → ⊥ }
+    ensures place { (bytes : List ℕ) (at other : Place) → IsBadAt bytes at → IsBadAt bytes other
+        → at ≡ other }
+    ensures none { (bytes : List ℕ) (f : FileTree) (at : Place) → IsText bytes f → IsBadAt bytes at
+        → ⊥ }
 {
     one_cut();
 }
 
 /// A text is answered in one way at most.
 pub fn one_outcome()
-    ensures { (bytes : List ℕ) (one other : Outcome) → Means bytes one → Means bytes other → one ≡ other }
+    ensures { (bytes : List ℕ) (one other : Outcome) → Means bytes one → Means bytes other
+        → one ≡ other }
 {
     one_cut();
     one_tree();
@@ -40,5 +43,9 @@ pub fn one_outcome()
 
 /// Reading the tokens that are to be read tells what the text is answered.
 pub fn told_means()
-    ensures { (bytes : List ℕ) (parts : Lexemes) (reach : Reach) (reading : Reading Lexeme FileTree) → AreParts bytes parts → StandBetween 0 parts.list parts.end.offset → Reaches bytes parts reach → Answers (carol bytes) (file bytes (tail_of parts.stop)) (take reach.count parts.list) reading → Means bytes (told parts reach.limit reading) }
+    ensures { (bytes : List ℕ) (parts : Lexemes) (reach : Reach) (reading : Reading Lexeme FileTree)
+        → AreParts bytes parts → StandBetween 0 parts.list parts.end.offset
+        → Reaches bytes parts reach
+        → Answers (carol bytes) (file bytes (tail_of parts.stop)) (take reach.count parts.list) reading
+        → Means bytes (told parts reach.limit reading) }
 {}

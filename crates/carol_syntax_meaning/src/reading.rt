@@ -16,8 +16,8 @@ pub struct Met {
     pub at: u32,
 }
 
-/// The first limit that a text passes before its end, and how many of its tokens begin at or before that place: all of
-/// them, where it passes none.
+/// The first limit that a text passes before its end, and how many of its tokens begin at or before
+/// that place: all of them, where it passes none.
 #[derive(Clone, Copy, Debug, PartialEq, Eq)]
 pub struct Reach {
     pub limit: Option<TextLimit>,
@@ -81,7 +81,8 @@ fn token_met(text: &Lexemes) -> Option<Met>
 // The first limit that is passed, and where.
 fn first_met(text: &Lexemes, bytes: &[u8]) -> Option<Met>
     requires { StandBetween 0 text.now.list text.now.end.offset }
-    ensures { MatchOption result (NonePast bytes.now text.now.list) (λ met. IsFirst bytes.now text.now.list met.limit met.at) }
+    ensures { MatchOption result (NonePast bytes.now text.now.list)
+        (λ met. IsFirst bytes.now text.now.list met.limit met.at) }
 {
     let met = token_met(text);
     if !is_too_long(text.list.as_slice(), bytes) {

@@ -1,5 +1,5 @@
--- The grammar of the language, a rule at a time. The bytes are those of the whole text, of which a token names a part;
--- `tail` is the offset behind a transcript's first line.
+-- The grammar of the language, a rule at a time. The bytes are those of the whole text, of which a
+-- token names a part; `tail` is the offset behind a transcript's first line.
 use Rattle.std.specs.Prelude.{ℕ, ◌+◌, ◌-◌, Bool, true, false, ℤ, pos, neg_ℤ, List, [], ◌∷◌, ◌++◌, fold, take, drop, length, Option, Some, None, option_to_list}
 use Rattle.carol_grammar.specs.Rule.{Rule, Grammar}
 use Rattle.carol_grammar.specs.Rule.Rule.{token, both, gives, either, perhaps, many, begins, deeper}
@@ -39,8 +39,8 @@ use Rattle.carol_syntax_tokens.specs.declared.kind.Kind.TheVariants as k
 use Rattle.carol_syntax_tokens.specs.declared.lexeme.Lexeme.{Lexeme}
 use Rattle.carol_syntax_rules.specs.Terminals.{number_of, class_of, class_of_zero, class_of_one, class_of_more, sample}
 
--- The two rules that reach themselves: a literal of a formula, and the end of a body. The value of an end is the body,
--- once the statements before it are given.
+-- The two rules that reach themselves: a literal of a formula, and the end of a body. The value of
+-- an end is the body, once the statements before it are given.
 pub data Knot : Type 0 where
   literal : Knot
   ending : Knot

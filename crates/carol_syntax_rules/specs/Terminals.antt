@@ -1,5 +1,5 @@
--- The kinds of tokens that the rules tell apart, as numbers: a word's or a symbol's is its place among the kinds, and a
--- number has one by whether it is 0, 1, or greater.
+-- The kinds of tokens that the rules tell apart, as numbers: a word's or a symbol's is its place
+-- among the kinds, and a number has one by whether it is 0, 1, or greater.
 use Rattle.std.specs.Prelude.{ℕ, zero, suc, ◌-◌, cond, nat_le, eqb, List, [], ◌∷◌}
 use Rattle.carol_syntax.specs.Limits.{largest}
 use Rattle.carol_syntax_tokens.specs.declared.kind.Kind.{Kind}

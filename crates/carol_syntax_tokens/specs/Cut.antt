@@ -1,5 +1,6 @@
--- What a text is cut into, from its front: spaces and comments are passed, then the longest token is taken. Behind the
--- word `transcript` a line feed has to come, and what stands behind it is not cut.
+-- What a text is cut into, from its front: spaces and comments are passed, then the longest token
+-- is taken. Behind the word `transcript` a line feed has to come, and what stands behind it is not
+-- cut.
 use Rattle.std.specs.Prelude.{◌≡◌, ℕ, ◌+◌, ◌<◌, ◌≤◌, Bool, true, false, ◌==◌, if◌then◌else◌, MatchBool, List, [], ◌∷◌, drop, Some, None}
 use Rattle.carol_syntax_tokens.specs.declared.kind.Kind.{Kind}
 use Rattle.carol_syntax_tokens.specs.declared.kind.Kind.TheVariants.{Transcript}
@@ -38,7 +39,8 @@ abbrev pub is_transcript : Kind → Bool
 is_transcript Transcript = true
 is_transcript _ = false
 
--- the lexemes are what is cut from here on, where spaces and comments are passed; why and where cutting stops
+-- the lexemes are what is cut from here on, where spaces and comments are passed; why and where
+-- cutting stops
 abbrev pub CutFrom : Place × List ℕ → List Lexeme → Stop → Place → Type 0
 CutFrom here [] stop end = Stops here stop × (end ≡ here.0)
 CutFrom here (lexeme ∷ lexemes) stop end =

@@ -22,8 +22,8 @@ span_of at = record { line = at.line; column = at.column }
 abbrev pub is_blank : ℕ → Bool
 is_blank b = b == 32 || b == 9 || b == 10 || b == 13
 
--- the byte belongs to a space or a comment, and then whether a comment goes on behind it; the flag says that one goes
--- on before it
+-- the byte belongs to a space or a comment, and then whether a comment goes on behind it; the flag
+-- says that one goes on before it
 abbrev pub passes : Bool → ℕ → Option Bool
 passes true b = Some (not (b == 10))
 passes false b = if is_blank b then Some false else (if b == 35 then Some true else None)

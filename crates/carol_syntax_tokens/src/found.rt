@@ -10,7 +10,8 @@ ghost use Rattle.std.specs.List.{prefix_len};
 use crate::kind::{Kind, word_kind};
 use carol_syntax::{LARGEST, LONGEST_NAME};
 
-/// The token at the front of a text: what it is, the value of a number and 0 of any other, and how many bytes it has.
+/// The token at the front of a text: what it is, the value of a number and 0 of any other, and how
+/// many bytes it has.
 #[derive(Clone, Copy, Debug, PartialEq, Eq)]
 pub struct Found {
     pub kind: Kind,
@@ -18,7 +19,8 @@ pub struct Found {
     pub length: u32,
 }
 
-/// The token that the text begins with, the longest one. None where its first byte begins no token, and where it is empty.
+/// The token that the text begins with, the longest one. None where its first byte begins no token,
+/// and where it is empty.
 #[tactic(auto, unfolding(crate::specs::First::first_token))]
 pub fn first(bytes: &[u8]) -> Option<Found>
     requires { length bytes.now < 2 ^ 32 }

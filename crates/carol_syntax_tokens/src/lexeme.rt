@@ -14,7 +14,8 @@ use carol_syntax::Span;
 use sqlite_items::Items;
 use std::alloc::{AllocError, Global};
 
-/// A token: what it is, the value of a number, the place of its first byte, and its bytes from `from` to before `to`.
+/// A token: what it is, the value of a number, the place of its first byte, and its bytes from
+/// `from` to before `to`.
 #[derive(Clone, Copy, Debug, PartialEq, Eq)]
 pub struct Lexeme {
     pub kind: Kind,
@@ -31,12 +32,13 @@ pub enum Stop {
     End,
     /// The offset of the first byte behind a transcript's first line.
     Tail(u32),
-    /// A byte that begins no token, or what stands where the line feed behind `transcript` has to be.
+    /// A byte that begins no token, or what stands where the line feed behind `transcript` has to
+    /// be.
     Bad(Span),
 }
 
-/// What a text is cut into, and where cutting stopped: behind the last byte, at the byte that begins no token, or behind
-/// the word `transcript`.
+/// What a text is cut into, and where cutting stopped: behind the last byte, at the byte that
+/// begins no token, or behind the word `transcript`.
 #[derive(Debug, Drop)]
 pub struct Lexemes {
     pub list: Items<Lexeme>,
@@ -96,14 +98,17 @@ fn begins_tail(kind: Kind) -> bool
 
 /// A text is cut in one way.
 pub fn one_cut()
-    ensures { (bytes : List ℕ) (xs ys : List Lexeme) (s t : Stop) (d e : Place) → Cut start bytes xs s d → Cut start bytes ys t e → (xs ≡ ys) × (s ≡ t) × (d ≡ e) }
+    ensures { (bytes : List ℕ) (xs ys : List Lexeme) (s t : Stop) (d e : Place)
+        → Cut start bytes xs s d → Cut start bytes ys t e → (xs ≡ ys) × (s ≡ t) × (d ≡ e) }
 {}
 
 /// Cuts a text into its tokens, the longest one each time.
 pub fn cut(alloc: Global, bytes: &[u8]) -> Result<Lexemes, AllocError>
     requires { length bytes.now ≤ most_text_bytes }
     ensures cut { IfOk result (λ all. Cut start bytes.now all.list all.stop all.end) }
-    ensures only { IfOk result (λ all. (list : List Lexeme) (stop : Stop) (end : Place) → Cut start bytes.now list stop end → (list ≡ all.list) × (stop ≡ all.stop) × (end ≡ all.end)) }
+    ensures only { IfOk result
+        (λ all. (list : List Lexeme) (stop : Stop) (end : Place) → Cut start bytes.now list stop end
+        → (list ≡ all.list) × (stop ≡ all.stop) × (end ≡ all.end)) }
     ensures ordered { IfOk result (λ all. StandBetween 0 all.list all.end.offset) }
     ensures within { IfOk result (λ all. all.end.offset ≤ length bytes.now) }
     ensures whole { IfOk result (λ all. all.stop ≡ Stop.End → all.end.offset ≡ length bytes.now) }

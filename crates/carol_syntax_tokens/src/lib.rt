@@ -6,11 +6,8 @@ mod kind;
 mod lexeme;
 mod place;
 mod public;
-#[cfg(test)]
-mod tests;
 
-pub use found::{Found, first};
-pub use kind::{Kind, word_kind};
+pub use kind::Kind;
 pub use lexeme::{Lexeme, Lexemes, Stop, cut, one_cut};
-pub use place::{Place, over};
+pub use place::Place;
 pub use public::{Lexed, Token, TokenKind, TokenList, tokens};

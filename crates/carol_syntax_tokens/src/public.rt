@@ -87,8 +87,9 @@ fn all_tokens(alloc: Global, lexemes: &[Lexeme]) -> Result<TokenList, AllocError
     Ok(list)
 }
 
-/// The tokens of a text in order, the longest one each time, with spaces and comments left out. `Bad` has the first byte
-/// that begins no token or, behind the word `transcript`, the place where its line does not end.
+/// The tokens of a text in order, the longest one each time, with spaces and comments left out.
+/// `Bad` has the first byte that begins no token or, behind the word `transcript`, the place where
+/// its line does not end.
 pub fn tokens(alloc: Global, bytes: &[u8]) -> Result<Lexed, AllocError>
     requires { length bytes.now ≤ most_text_bytes }
     ensures cut { IfOk result (λ lexed. AreTokens bytes.now lexed.list lexed.stop) }

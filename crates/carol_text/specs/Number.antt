@@ -9,8 +9,8 @@ abbrev pub starts_with_digit : List ℕ → Bool
 starts_with_digit [] = false
 starts_with_digit (c ∷ cs) = is_ascii_digit c
 
--- The number that the digits so far, those of n, and the digits at the front make together. A digit with
--- which it passes `most` is bad.
+-- The number that the digits so far, those of n, and the digits at the front make together. A digit
+-- with which it passes `most` is bad.
 unfoldable pub digits_after : ℕ → ℕ → List ℕ → Reading ℕ
 digits_after most n [] = Ok (n, [])
 digits_after most n (c ∷ cs) = if is_ascii_digit c
@@ -36,7 +36,8 @@ unsigned_at highest bytes = number_at highest bytes >>= λ x. Ok (pos x.0, x.1)
 abbrev pub below_zero_at : ℕ → List ℕ → Reading ℤ
 below_zero_at deepest bytes = number_at deepest bytes >>= λ x. negative (length bytes) x.0 x.1
 
--- A whole number with its sign, of an absolute value of at most `deepest` below zero and `highest` above it.
+-- A whole number with its sign, of an absolute value of at most `deepest` below zero and `highest`
+-- above it.
 unfoldable pub integer_at : ℕ → ℕ → List ℕ → Reading ℤ
 integer_at deepest highest [] = Err 0
 integer_at deepest highest (c ∷ cs) = if c == 45 then below_zero_at deepest cs else unsigned_at highest (c ∷ cs)

@@ -2,7 +2,8 @@
 use Rattle.std.specs.Prelude.{◌≡◌, ℕ, suc, List, [], ◌∷◌, length, Result, Ok, Err, ◌==◌, if◌then◌else◌}
 use Rattle.carol_text.specs.declared.bad_byte.BadByte.{BadByte}
 
--- What reading gives: a value and the bytes after it, or how many bytes are left from the first bad one on.
+-- What reading gives: a value and the bytes after it, or how many bytes are left from the first bad
+-- one on.
 abbrev pub Reading : Type 0 → Type 0
 Reading X = Result (X × List ℕ) ℕ
 

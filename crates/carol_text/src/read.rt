@@ -9,7 +9,8 @@ use crate::bad_byte::BadByte;
 /// The bytes after `word`, which has to stand at the front.
 pub fn expect<'a>(bytes: &'a [u8], word: &[u8]) -> Result<&'a [u8], BadByte>
     ensures found { IfOk result (λ x. bytes.now ≡ word.now ++ x.now) }
-    ensures only { (rest : List ℕ) → bytes.now ≡ word.now ++ rest → IsOkAnd result (λ x. x.now ≡ rest) }
+    ensures only { (rest : List ℕ) → bytes.now ≡ word.now ++ rest
+        → IsOkAnd result (λ x. x.now ≡ rest) }
 
     // The first byte that differs from the word is bad.
     ensures exact { Reads (λ x. x.now) result (word_at word.now bytes.now) }
@@ -34,14 +35,15 @@ fn after_word<'a>(bytes: &'a [u8], word: &[u8]) -> Result<&'a [u8], BadByte>
     Ok(rest)
 }
 
-/// The number of at most `most` at the front, in decimal without a leading zero, and the bytes after it:
-/// after a zero that begins the text, or after the last digit.
+/// The number of at most `most` at the front, in decimal without a leading zero, and the bytes
+/// after it: after a zero that begins the text, or after the last digit.
 pub fn number(bytes: &[u8], most: u64) -> Result<(u64, &[u8]), BadByte>
     ensures found { IfOk result (λ x. (x.0 ≤ most) × (bytes.now ≡ decimal x.0 ++ x.1.now)) }
     ensures only { (n : ℕ) (rest : List ℕ) → n ≤ most → starts_with_digit rest ≡ false
         → bytes.now ≡ decimal n ++ rest → IsOkAnd result (λ x. (x.0 ≡ n) × (x.1.now ≡ rest)) }
 
-    // A first byte that is no digit is bad, and so is the digit with which the number passes `most`.
+    // A first byte that is no digit is bad, and so is the digit with which the number passes
+    // `most`.
     ensures exact { Reads (λ x. (x.0, x.1.now)) result (number_at most bytes.now) }
 {
     let (value, rest) = wide_number(bytes, u128::from(most))?;
@@ -103,17 +105,20 @@ fn with_digit(value: u128, digit: u8, most: u128) -> Option<u128>
     if next <= most { Some(next) } else { None }
 }
 
-/// The whole number from `lowest` to `highest` at the front, in decimal with a minus directly before a
-/// negative one, and the bytes after it.
+/// The whole number from `lowest` to `highest` at the front, in decimal with a minus directly
+/// before a negative one, and the bytes after it.
 pub fn integer(bytes: &[u8], lowest: i64, highest: i64) -> Result<(i64, &[u8]), BadByte>
     requires lowest { lowest ≤ℤ pos 0 }
     requires highest { pos 0 ≤ℤ highest }
-    ensures found { IfOk result (λ x. (lowest ≤ℤ x.0) × (x.0 ≤ℤ highest) × (bytes.now ≡ signed_decimal x.0 ++ x.1.now)) }
+    ensures found { IfOk result
+        (λ x. (lowest ≤ℤ x.0) × (x.0 ≤ℤ highest) × (bytes.now ≡ signed_decimal x.0 ++ x.1.now)) }
     ensures only { (z : ℤ) (rest : List ℕ) → lowest ≤ℤ z → z ≤ℤ highest → starts_with_digit rest ≡ false
-        → bytes.now ≡ signed_decimal z ++ rest → IsOkAnd result (λ x. (x.0 ≡ z) × (x.1.now ≡ rest)) }
+        → bytes.now ≡ signed_decimal z ++ rest
+        → IsOkAnd result (λ x. (x.0 ≡ z) × (x.1.now ≡ rest)) }
 
     // The zero after a minus is bad, and else what `number` says is.
-    ensures exact { Reads (λ x. (x.0, x.1.now)) result (integer_at (unsigned_abs lowest) (unsigned_abs highest) bytes.now) }
+    ensures exact { Reads (λ x. (x.0, x.1.now)) result
+        (integer_at (unsigned_abs lowest) (unsigned_abs highest) bytes.now) }
 {
     let (value, rest) = wide_integer(bytes, i128::from(lowest), i128::from(highest))?;
     Ok((value as i64, rest))
@@ -123,10 +128,13 @@ pub fn integer(bytes: &[u8], lowest: i64, highest: i64) -> Result<(i64, &[u8]), 
 pub fn wide_integer(bytes: &[u8], lowest: i128, highest: i128) -> Result<(i128, &[u8]), BadByte>
     requires lowest { lowest ≤ℤ pos 0 }
     requires highest { pos 0 ≤ℤ highest }
-    ensures found { IfOk result (λ x. (lowest ≤ℤ x.0) × (x.0 ≤ℤ highest) × (bytes.now ≡ signed_decimal x.0 ++ x.1.now)) }
+    ensures found { IfOk result
+        (λ x. (lowest ≤ℤ x.0) × (x.0 ≤ℤ highest) × (bytes.now ≡ signed_decimal x.0 ++ x.1.now)) }
     ensures only { (z : ℤ) (rest : List ℕ) → lowest ≤ℤ z → z ≤ℤ highest → starts_with_digit rest ≡ false
-        → bytes.now ≡ signed_decimal z ++ rest → IsOkAnd result (λ x. (x.0 ≡ z) × (x.1.now ≡ rest)) }
-    ensures exact { Reads (λ x. (x.0, x.1.now)) result (integer_at (unsigned_abs lowest) (unsigned_abs highest) bytes.now) }
+        → bytes.now ≡ signed_decimal z ++ rest
+        → IsOkAnd result (λ x. (x.0 ≡ z) × (x.1.now ≡ rest)) }
+    ensures exact { Reads (λ x. (x.0, x.1.now)) result
+        (integer_at (unsigned_abs lowest) (unsigned_abs highest) bytes.now) }
 {
     front_integer(bytes, lowest.unsigned_abs(), highest.unsigned_abs())
 }
