@@ -22,7 +22,7 @@ tag_below [] a = absurd a
 tag_below (f ∷ fs) (inl x) = omega arith
 tag_below (f ∷ fs) (inr y) = let h : tag (rowss fs) y < length fs = tag_below fs y in omega arith
 
-pub few_kinds : (kind : Kind) → number_of kind < class_of_zero
+few_kinds : (kind : Kind) → number_of kind < class_of_zero
 unfolding number_of
 few_kinds kind =
     let h : tag_of the_type kind < length the_type.parts = tag_below the_type.parts (the_type.to kind) in

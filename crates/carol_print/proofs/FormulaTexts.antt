@@ -11,16 +11,16 @@ use Rattle.carol_print.specs.Enclosing.{opened, closed}
 use Rattle.carol_print_canon.proofs.Lists.{text_of_both}
 use Rattle.carol_print.proofs.Texts.{enclosed_text}
 
-pub denial_text : (f : FormulaTree) (out : List ℕ) → (out ++ codes "not " ++ opened (is_either f || is_both f) ++ text_of (formula f)) ++ closed (is_either f || is_both f) ≡ out ++ text_of (formula (Not f))
+denial_text : (f : FormulaTree) (out : List ℕ) → (out ++ codes "not " ++ opened (is_either f || is_both f) ++ text_of (formula f)) ++ closed (is_either f || is_both f) ≡ out ++ text_of (formula (Not f))
 denial_text f out = simp (append_assoc, enclosed_text)
 
-pub both_text : (f g : FormulaTree) (out : List ℕ) → (out ++ opened (is_either f) ++ text_of (formula f) ++ closed (is_either f) ++ codes " and " ++ opened (is_either g || is_both g) ++ text_of (formula g)) ++ closed (is_either g || is_both g) ≡ out ++ text_of (formula (And f g))
+both_text : (f g : FormulaTree) (out : List ℕ) → (out ++ opened (is_either f) ++ text_of (formula f) ++ closed (is_either f) ++ codes " and " ++ opened (is_either g || is_both g) ++ text_of (formula g)) ++ closed (is_either g || is_both g) ≡ out ++ text_of (formula (And f g))
 both_text f g out = simp (append_assoc, text_of_both, enclosed_text)
 
-pub either_text : (f g : FormulaTree) (out : List ℕ) → (out ++ text_of (formula f) ++ codes " or " ++ opened (is_either g) ++ text_of (formula g)) ++ closed (is_either g) ≡ out ++ text_of (formula (Or f g))
+either_text : (f g : FormulaTree) (out : List ℕ) → (out ++ text_of (formula f) ++ codes " or " ++ opened (is_either g) ++ text_of (formula g)) ++ closed (is_either g) ≡ out ++ text_of (formula (Or f g))
 either_text f g out = simp (append_assoc, text_of_both, enclosed_text)
 
-pub comparison_text : (left right : TermDecl) (s : Sign) (out : List ℕ) → (out ++ text_of (term left) ++ text_of (Space ∷ sign s ∷ Space ∷ [])) ++ text_of (term right) ≡ out ++ text_of (formula (Compare left s right))
+comparison_text : (left right : TermDecl) (s : Sign) (out : List ℕ) → (out ++ text_of (term left) ++ text_of (Space ∷ sign s ∷ Space ∷ [])) ++ text_of (term right) ≡ out ++ text_of (formula (Compare left s right))
 comparison_text left right s out =
     elim s as (λ v. (out ++ text_of (term left) ++ text_of (Space ∷ sign v ∷ Space ∷ [])) ++ text_of (term right) ≡ out ++ text_of (term left ++ (Space ∷ sign v ∷ Space ∷ term right))) [
       | way.AtMost ↦ simp (append_assoc, text_of_both)

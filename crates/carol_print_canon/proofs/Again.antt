@@ -23,7 +23,7 @@ use Rattle.carol_print_canon.proofs.Words.{word_goes}
 use Rattle.carol_print_canon.proofs.Numbers.{number_goes}
 
 -- a token is the longest one also before bytes that don't lengthen it
-pub first_goes : (spelled bytes : List ℕ) (kind : Kind) (value : ℕ) → IsSpelled kind value spelled → ends_before kind bytes ≡ true → first_token (spelled ++ bytes) ≡ token_with kind value (length spelled)
+first_goes : (spelled bytes : List ℕ) (kind : Kind) (value : ℕ) → IsSpelled kind value spelled → ends_before kind bytes ≡ true → first_token (spelled ++ bytes) ≡ token_with kind value (length spelled)
 unfolding first_token
 first_goes [] bytes kind value h e = absurd cc
 first_goes (b ∷ bs) bytes kind value h e =

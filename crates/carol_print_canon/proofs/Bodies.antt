@@ -29,7 +29,7 @@ atom_fits a h bytes soft =
 pub line_stands : (ps : Pieces) → Fits ps → Stands (ps ++ semicolon ∷ Break ∷ [])
 line_stands ps fits bytes = soft_both ps (semicolon ∷ Break ∷ []) bytes fits refl (fixed_spelled k.Semicolon refl, refl, refl, tt)
 
-pub statement_stands : (s : Statement) → IsStatement s → Stands (statement s)
+statement_stands : (s : Statement) → IsStatement s → Stands (statement s)
 statement_stands (statement_of.Query n g) h bytes =
     (fixed_spelled k.Query refl, refl, refl, (named n h.0, refl, refl, (fixed_spelled k.Under refl, refl, refl, (named g h.1, refl, refl, (fixed_spelled k.Semicolon refl, refl, refl, tt)))))
 statement_stands statement_of.Release h bytes = (fixed_spelled k.Release refl, refl, refl, (fixed_spelled k.Semicolon refl, refl, refl, tt))

@@ -1,6 +1,6 @@
 -- The canonical text of a file is laid out.
 use Rattle.std.proofs.Common.{ℕ, Bool, true, false, List, [], ◌∷◌, refl, map}
-use Rattle.std.specs.Prelude.{Option, Some, None, IfSome, ◌==◌, codes, if◌then◌else◌}
+use Rattle.std.specs.Prelude.{Option, Some, None, IfSome, ◌==◌, if◌then◌else◌}
 use Rattle.std.specs.List.{AllByRecursion}
 use Rattle.carol_syntax.specs.declared.scenes.CommandDecl.{CommandDecl}
 use Rattle.carol_syntax.specs.declared.scenes.SessionDecl.{SessionDecl}
@@ -10,7 +10,7 @@ use Rattle.carol_syntax.specs.declared.scenes.ScriptLine.TheVariants as line_of
 use Rattle.carol_syntax.specs.Files.{NamedFormula, OpTree, ProgramTree, FileTree}
 use Rattle.carol_syntax.specs.Shape.{IsCell, IsWhole, IsLiteral, IsNamed, IsOp, IsProgram, IsCommand, IsSession, IsScene, IsLine, IsFile}
 use Rattle.carol_syntax_tokens.specs.declared.kind.Kind.TheVariants as k
-use Rattle.carol_print_canon.specs.Pieces.{Token, Space, Break, AreLaidOut}
+use Rattle.carol_print_canon.specs.Pieces.{Space, Break, AreLaidOut, fixed}
 use Rattle.carol_print_canon.specs.Canonical.{Pieces, semicolon, int, number, with_commas, concat, formula, cell, inside, guard, param, op, end, program, times, command, session, scene, line, script, part_of, canonical}
 use Rattle.carol_print_canon.proofs.Standing.{Fits, Stands, any_kind, soft_both, stands_both, named, with_commas_fit, rows_stand}
 use Rattle.carol_print_canon.proofs.Terms.{number_fits, int_fits}
@@ -82,7 +82,7 @@ program_stands p h bytes = (
   ),
 )
 
-times_laid : (b : Bool) (n : ℕ) → IsLiteral n → Fits (if b then [] else (Space ∷ Token k.Times 0 (codes "times") ∷ Space ∷ number n ∷ []))
+times_laid : (b : Bool) (n : ℕ) → IsLiteral n → Fits (if b then [] else (Space ∷ fixed k.Times ∷ Space ∷ number n ∷ []))
 times_laid true n h bytes soft = tt
 times_laid false n h bytes soft = (fixed_spelled k.Times refl, refl, refl, number_fits n h bytes soft)
 

@@ -50,7 +50,7 @@ stands_both first second bytes stands more = laid_before_both bytes first second
 pub named : (i : Ident) → IsName i → IsSpelled k.Name 0 i.word
 named i h = name_spelled i.word h.0 h.1 h.2
 
-pub after_commas_fit : {A : Type 0} (P : A → Type 0) (f : A → Pieces) → AllFit P f → (xs : List A) → AllByRecursion P xs → Fits (after_commas (map f xs))
+after_commas_fit : {A : Type 0} (P : A → Type 0) (f : A → Pieces) → AllFit P f → (xs : List A) → AllByRecursion P xs → Fits (after_commas (map f xs))
 after_commas_fit P f one [] h bytes soft = tt
 after_commas_fit P f one (x ∷ []) h bytes soft =
     (fixed_spelled k.Comma refl, refl, refl, soft_both (f x) [] bytes (one x h.0) soft tt)

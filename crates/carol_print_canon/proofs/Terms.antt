@@ -80,7 +80,7 @@ product_of_fits (Some n) None f h bytes soft = number_fits n f bytes soft
 product_of_fits (Some n) (Some v) f h bytes soft =
     (number_spelled n f, refl, refl, (fixed_spelled k.Star refl, refl, any_kind k.Star (λ _. refl) _, value_fits v h bytes soft))
 
-pub product_fits : (p : ProductDecl) → IsProduct p → Fits (product p)
+product_fits : (p : ProductDecl) → IsProduct p → Fits (product p)
 product_fits p h = product_of_fits p.factor p.value h.0 h.1
 
 unequal_value : (kind : ValueKind) (parts : List Ident) (more : Pieces) (bytes : List ℕ) → HasParts kind (length parts) → AllByRecursion IsName parts → ends_before k.Minus (text_of (value_as kind parts ++ more) ++ bytes) ≡ true

@@ -30,7 +30,7 @@ along b s kind h other true e =
     absurd (other (sym h ∙ same ∙ found_equals s))
 along b s kind h other false e = refl
 
-pub unequal : (kind : Kind) (value : ℕ) (s bytes : List ℕ) → (kind ≡ k.Equals → ⊥) → IsSpelled kind value s → ends_before k.Minus (s ++ bytes) ≡ true
+unequal : (kind : Kind) (value : ℕ) (s bytes : List ℕ) → (kind ≡ k.Equals → ⊥) → IsSpelled kind value s → ends_before k.Minus (s ++ bytes) ≡ true
 unequal kind value [] bytes other h = absurd (other (sym (ap kind_found h) ∙ found_none))
 unequal kind value (b ∷ s) bytes other h = along b s kind (ap kind_found h) other (b == 61) refl
 

@@ -58,7 +58,7 @@ module _ {bytes : List ℕ} where
   field_as field_kind_of.Peak n z h = reach_peak n z h
   field_as field_kind_of.Flag n z h = reach_flag n z h
 
-  pub reach_field : (f : FieldDecl) {us : List Piece} → IsField f
+  reach_field : (f : FieldDecl) {us : List Piece} → IsField f
       → Reaches bytes (field bytes) (onto (text.field f) us) us (Same unplaced_field f)
   reach_field f h = field_as f.kind f.name f.start h.1
 

@@ -69,7 +69,7 @@ module _ (bytes : List ℕ) where
   grown_too r n m ts v s = within_grows Lexeme Knot KnotValue (carol bytes) n (m + n) (omega arith) r ts v s
 
   -- sentences of any length and depth, by their parts
-  pub both_says : {A B : Type 0} (r : RuleOf A) (s : RuleOf B) (x y : List Lexeme) (a : A) (b : B) → Says r x a → Says s y b
+  both_says : {A B : Type 0} (r : RuleOf A) (s : RuleOf B) (x y : List Lexeme) (a : A) (b : B) → Says r x a → Says s y b
       → Says (both r s) (x ++ y) (a, b)
   both_says r s x y a b p q = (p.0 + q.0, (x, y, refl, grown r p.0 q.0 x a p.1, grown_too s q.0 p.0 y b q.1))
 
@@ -83,7 +83,7 @@ module _ (bytes : List ℕ) where
   none_says : {A : Type 0} (r : RuleOf A) → Says (many r) [] []
   none_says r = (0, refl)
 
-  pub more_says : {A : Type 0} (r : RuleOf A) (x y : List Lexeme) (v : A) (vs : List A) → Says r x v → Says (many r) y vs
+  more_says : {A : Type 0} (r : RuleOf A) (x y : List Lexeme) (v : A) (vs : List A) → Says r x v → Says (many r) y vs
       → Says (many r) (x ++ y) (v ∷ vs)
   more_says r x y v vs p q = (
     suc (p.0 + q.0),
@@ -114,7 +114,7 @@ module _ (bytes : List ℕ) where
   last_says r x y (w ∷ vs) v (zero, p) q = absurd p
 
   -- one more member at the end of those that are folded
-  pub folded_says : {A : Type 0} (f : A → A → A) (r s : RuleOf A) (x y : List Lexeme) (a b : A)
+  folded_says : {A : Type 0} (f : A → A → A) (r s : RuleOf A) (x y : List Lexeme) (a b : A)
       → Says (gives (λ p. fold f p.0 p.1) (both r (many s))) x a → Says s y b
       → Says (gives (λ p. fold f p.0 p.1) (both r (many s))) (x ++ y) (f a b)
   folded_says f r s x y a b (n, (w, p, e)) q =
@@ -124,7 +124,7 @@ module _ (bytes : List ℕ) where
       (sym (append_assoc p.0 p.1 y) ∙ ap (λ z. z ++ y) (sym p.2))
       (whole.0, ((w.0, w.1 ++ b ∷ []), whole.1, fold_push f w.0 w.1 b ∙ ap (λ z. f z b) e))
 
-  pub deeper_says : (v : Knot) (x : List Lexeme) (a : KnotValue v) → Says (upper (carol bytes) v) x a → Says (deeper v) x a
+  deeper_says : (v : Knot) (x : List Lexeme) (a : KnotValue v) → Says (upper (carol bytes) v) x a → Says (deeper v) x a
   deeper_says v x a p = (
     suc p.0,
     sentence_grows Lexeme Knot KnotValue class_of p.0 (suc p.0) (omega arith) (Deep (carol bytes) p.0 p.0)
@@ -150,7 +150,7 @@ module _ (bytes : List ℕ) where
 
 module _ {bytes : List ℕ} where
   -- What is reached by one rule is reached by another of which the same tokens are a sentence.
-  pub reach_as : {A B : Type 0} {r : RuleOf A} {s : RuleOf B} {ts us : List Piece} {P : A → Type 0} {Q : B → Type 0} (f : A → B)
+  reach_as : {A B : Type 0} {r : RuleOf A} {s : RuleOf B} {ts us : List Piece} {P : A → Type 0} {Q : B → Type 0} (f : A → B)
       → Reaches bytes r ts us P → ((x : List Lexeme) (v : A) → Says bytes r x v → Says bytes s x (f v))
       → ((v : A) → P v → Q (f v)) → Reaches bytes s ts us Q
   reach_as f p says fits = record {

@@ -1,7 +1,7 @@
 -- Scenes and scripts.
 use Rattle.std.proofs.Common.{◌≡◌, ℕ, Bool, true, false, List, [], ◌∷◌, ℤ, refl, sym, ◌∙◌, ap, arith}
 use Rattle.std.proofs.lemmas.Bool.Decides.{nat_tests}
-use Rattle.std.specs.Prelude.{map, ◌==◌, if◌then◌else◌, codes}
+use Rattle.std.specs.Prelude.{map, ◌==◌, if◌then◌else◌}
 use Rattle.std.specs.List.{AllByRecursion}
 use Rattle.carol_grammar.specs.Rule.Rule.{begins}
 use Rattle.carol_syntax.specs.declared.places.Ident.{Ident}
@@ -17,7 +17,7 @@ use Rattle.carol_syntax_tokens.specs.declared.kind.Kind.{Kind}
 use Rattle.carol_syntax_tokens.specs.declared.kind.Kind.TheVariants as k
 use Rattle.carol_syntax_rules.specs.Terminals.{number_of}
 use Rattle.carol_syntax_rules.specs.Rules.{int, list_of, some_ints, arguments, times_of, times, command, commands, session, sessions, setting, scene, pair, script_line, line_words, lines, script}
-use Rattle.carol_print_canon.specs.Pieces.{Piece, Token, Space}
+use Rattle.carol_print_canon.specs.Pieces.{Piece, Space, fixed}
 use Rattle.carol_print_canon.specs.Canonical as text
 use Rattle.carol_print_readback.proofs.Reached.{Same, Reaches, onto, onto-append, is_word_kind, reach_with, reach_gives, reach_both, reach_left, reach_right, reach_word, reach_begins, reach_behind, reach_before, reach_some, reach_none}
 use Rattle.carol_print_readback.proofs.Terminals.{reach_name, reach_number, reach_num, reach_int}
@@ -38,7 +38,7 @@ module _ {bytes : List ℕ} where
       (λ y e. sym (map_itself y) ∙ e ∙ map_itself (z ∷ zs))) (λ y e. e)
 
   reach_times : (n : Num) (once : Bool) {us : List Piece} → (n.value == 1) ≡ once → IsNumber n
-      → Reaches bytes times (onto (if once then [] else Space ∷ Token k.Times 0 (codes "times") ∷ Space ∷ text.number n.value ∷ []) us) us
+      → Reaches bytes times (onto (if once then [] else Space ∷ fixed k.Times ∷ Space ∷ text.number n.value ∷ []) us) us
       (λ o. (i : Ident) → unplaced_number (times_of i o) ≡ unplaced_number n)
   unfolding times
   reach_times n true e h =
@@ -73,28 +73,28 @@ module _ {bytes : List ℕ} where
       reach_concat (begins (number_of k.Session ∷ []) (session bytes)) text.session IsSession unplaced_session
       (λ s us h. reach_begins (reach_session s h))
 
-  reach_setting : {kind : Kind} {spelled : List ℕ} (n : Num) {us : List Piece} → is_word_kind kind ≡ true → IsNumber n
-      → Reaches bytes (setting kind) (onto (text.setting kind spelled n) us) us (Same unplaced_number n)
-  reach_setting n e h = reach_before refl (reach_behind e (reach_num n h))
+  reach_setting : (kind : Kind) (n : Num) {us : List Piece} → is_word_kind kind ≡ true → IsNumber n
+      → Reaches bytes (setting kind) (onto (text.setting kind n) us) us (Same unplaced_number n)
+  reach_setting kind n e h = reach_before refl (reach_behind e (reach_num n h))
 
   pub reach_scene : (s : SceneDecl) {us : List Piece} → IsScene s
       → Reaches bytes (scene bytes) (onto (text.scene s) us) us (Same unplaced_scene s)
   unfolding scene
   reach_scene s h =
-      simp onto-append (reach_gives (reach_behind refl (reach_both (reach_setting s.replicas refl h.replicas)
-      (reach_both (reach_setting s.tries refl h.tries) (reach_both (reach_setting s.workers refl h.workers)
-      (reach_both (reach_setting s.gossipers refl h.gossipers) (reach_before refl (reach_sessions s.sessions h.sessions))))))) (λ y e. cc))
+      simp onto-append (reach_gives (reach_behind refl (reach_both (reach_setting k.Replicas s.replicas refl h.replicas)
+      (reach_both (reach_setting k.Tries s.tries refl h.tries) (reach_both (reach_setting k.Workers s.workers refl h.workers)
+      (reach_both (reach_setting k.Gossipers s.gossipers refl h.gossipers) (reach_before refl (reach_sessions s.sessions h.sessions))))))) (λ y e. cc))
 
-  reach_pair : {kind : Kind} {spelled : List ℕ} (q r : ℕ) {us : List Piece} → is_word_kind kind ≡ true → IsLiteral q → IsLiteral r
-      → Reaches bytes (pair kind) (onto (text.pair kind spelled q r) us) us (λ p. (p.0 ≡ q) × (p.1 ≡ r))
-  reach_pair q r e f g = reach_gives (reach_behind e (reach_both (reach_number q f) (reach_before refl (reach_number r g)))) (λ y h. h)
+  reach_pair : (kind : Kind) (q r : ℕ) {us : List Piece} → is_word_kind kind ≡ true → IsLiteral q → IsLiteral r
+      → Reaches bytes (pair kind) (onto (text.pair kind q r) us) us (λ p. (p.0 ≡ q) × (p.1 ≡ r))
+  reach_pair kind q r e f g = reach_gives (reach_behind e (reach_both (reach_number q f) (reach_before refl (reach_number r g)))) (λ y h. h)
 
   reach_line : (l : ScriptLine) {us : List Piece} → IsLine l → Reaches bytes script_line (onto (text.line l) us) us (λ y. y ≡ l)
   unfolding script_line
   reach_line (line_of.Go s) h = reach_left (reach_gives (reach_behind refl (reach_before refl (reach_number s h))) (λ y e. cc))
-  reach_line (line_of.Gossip q r) h = reach_right (reach_left (reach_gives (reach_pair q r refl h.0 h.1) (λ y e. cc)))
-  reach_line (line_of.Cut q r) h = reach_right (reach_right (reach_left (reach_gives (reach_pair q r refl h.0 h.1) (λ y e. cc))))
-  reach_line (line_of.Join q r) h = reach_right (reach_right (reach_right (reach_gives (reach_pair q r refl h.0 h.1) (λ y e. cc))))
+  reach_line (line_of.Gossip q r) h = reach_right (reach_left (reach_gives (reach_pair k.Gossip q r refl h.0 h.1) (λ y e. cc)))
+  reach_line (line_of.Cut q r) h = reach_right (reach_right (reach_left (reach_gives (reach_pair k.Cut q r refl h.0 h.1) (λ y e. cc))))
+  reach_line (line_of.Join q r) h = reach_right (reach_right (reach_right (reach_gives (reach_pair k.Join q r refl h.0 h.1) (λ y e. cc))))
 
   reach_lines : (xs : List ScriptLine) {us : List Piece} → AllByRecursion IsLine xs
       → Reaches bytes lines (onto (text.concat (map text.line xs)) us) us (Same (map (λ y. y)) xs)

@@ -35,11 +35,11 @@ pub file_begun : (bytes : List ℕ) (tail : ℕ) (ts : List Lexeme) (f : FileTre
 file_begun bytes tail ts f s = ([], f, subst (λ (z : List Lexeme). IsFileOf bytes tail z f) (sym (append-nil ts)) s)
 
 -- tokens that begin a file have no fault at one of them
-pub no_fault : (bytes : List ℕ) (tail : ℕ) (ts : List Lexeme) (t : Lexeme) (more : List Lexeme) → IsFault (carol bytes) (file bytes tail) ts (t ∷ more) → BeginsFile bytes tail ts → ⊥
+no_fault : (bytes : List ℕ) (tail : ℕ) (ts : List Lexeme) (t : Lexeme) (more : List Lexeme) → IsFault (carol bytes) (file bytes tail) ts (t ∷ more) → BeginsFile bytes tail ts → ⊥
 no_fault bytes tail ts t more h b = not_begun bytes tail h.front t more h.none (subst (BeginsFile bytes tail) h.split b)
 
 -- a list has one fault
-pub fault_once : (bytes : List ℕ) (tail : ℕ) (ts : List Lexeme) (s t : Lexeme) (us vs : List Lexeme) → IsFault (carol bytes) (file bytes tail) ts (s ∷ us) → IsFault (carol bytes) (file bytes tail) ts (t ∷ vs) → s ≡ t
+fault_once : (bytes : List ℕ) (tail : ℕ) (ts : List Lexeme) (s t : Lexeme) (us vs : List Lexeme) → IsFault (carol bytes) (file bytes tail) ts (s ∷ us) → IsFault (carol bytes) (file bytes tail) ts (t ∷ vs) → s ≡ t
 fault_once bytes tail ts s t us vs h k = go (compare_splits h.front k.front s t us vs (sym h.split ∙ k.split))
   where
     go : Behind h.front k.front t ⊎ (Same h.front k.front s t us vs ⊎ Behind k.front h.front s) → s ≡ t

@@ -46,6 +46,7 @@ pub fn told_means()
     ensures { (bytes : List ℕ) (parts : Lexemes) (reach : Reach) (reading : Reading Lexeme FileTree)
         → AreParts bytes parts → StandBetween 0 parts.list parts.end.offset
         → Reaches bytes parts reach
-        → Answers (carol bytes) (file bytes (tail_of parts.stop)) (take reach.count parts.list) reading
+        → Answers (carol bytes) (file bytes (tail_of parts.stop))
+        (take reach.count parts.list) reading
         → Means bytes (told parts reach.limit reading) }
 {}

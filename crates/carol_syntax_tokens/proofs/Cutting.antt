@@ -15,7 +15,7 @@ pub one_more : (at : Place) (rest : List ℕ) (found : Found) (more : List Lexem
 one_more at rest found more stop end first other h =
     (found, record { first = first; made = refl }, rw other h)
 
-pub last_of_tail : (at : Place) (rest : List ℕ) (found : Found) → first_token rest ≡ Some found → is_transcript found.kind ≡ true → CutFrom (at, rest) (lexeme_at at found ∷ []) (stop_of_tail (place_over at found.length) (drop found.length rest)) (place_over at found.length)
+last_of_tail : (at : Place) (rest : List ℕ) (found : Found) → first_token rest ≡ Some found → is_transcript found.kind ≡ true → CutFrom (at, rest) (lexeme_at at found ∷ []) (stop_of_tail (place_over at found.length) (drop found.length rest)) (place_over at found.length)
 last_of_tail at rest found first tail =
     (found, record { first = first; made = refl }, rw tail (refl, (refl, refl)))
 
@@ -62,7 +62,7 @@ same_first : (x y : Lexeme) (xs ys : List Lexeme) → x ≡ y → xs ≡ ys → 
 same_first x y xs ys h k = cc (h, k)
 
 -- a text is cut in one way
-pub cut_from_once : (here : Place × List ℕ) (xs ys : List Lexeme) (s t : Stop) (d e : Place) → CutFrom here xs s d → CutFrom here ys t e → Same xs ys s t d e
+cut_from_once : (here : Place × List ℕ) (xs ys : List Lexeme) (s t : Stop) (d e : Place) → CutFrom here xs s d → CutFrom here ys t e → Same xs ys s t d e
 cut_from_once here [] [] s t d e h k = (refl, stops_once here.0 here.1 s t h.0 k.0, h.1 ∙ sym k.1)
 cut_from_once here [] (y ∷ ys) s t d e h (found, next, rest) = let none = stops_none here.0 here.1 s h.0 in absurd (cc (none, next.first))
 cut_from_once here (x ∷ xs) [] s t d e (found, next, rest) k = let none = stops_none here.0 here.1 t k.0 in absurd (cc (none, next.first))

@@ -30,7 +30,7 @@ decimal_more n c some low high small =
 
 -- ---- reading a digit
 
-pub digits_go_on : (most n c : ℕ) (cs : List ℕ) → 48 ≤ c → c ≤ 57 → 10 * n + (c - 48) ≤ most → digits_after most n (c ∷ cs) ≡ digits_after most (10 * n + (c - 48)) cs
+digits_go_on : (most n c : ℕ) (cs : List ℕ) → 48 ≤ c → c ≤ 57 → 10 * n + (c - 48) ≤ most → digits_after most n (c ∷ cs) ≡ digits_after most (10 * n + (c - 48)) cs
 unfolding digits_after
 digits_go_on most n c cs low high fits =
     let digit : is_ascii_digit c ≡ true = is_digit c low high in
@@ -44,7 +44,7 @@ digits_pass most n c cs low high passes =
     let large : leb (10 * n + (c - 48)) most ≡ false = grind (arith, nat_tests) in
     rw (digit, large) refl
 
-pub digits_end : (most n : ℕ) (rest : List ℕ) → starts_with_digit rest ≡ false → digits_after most n rest ≡ Ok (n, rest)
+digits_end : (most n : ℕ) (rest : List ℕ) → starts_with_digit rest ≡ false → digits_after most n rest ≡ Ok (n, rest)
 unfolding digits_after
 digits_end most n [] e = refl
 digits_end most n (c ∷ cs) e = rw e refl

@@ -112,7 +112,8 @@ pub fn integer(bytes: &[u8], lowest: i64, highest: i64) -> Result<(i64, &[u8]), 
     requires highest { pos 0 ≤ℤ highest }
     ensures found { IfOk result
         (λ x. (lowest ≤ℤ x.0) × (x.0 ≤ℤ highest) × (bytes.now ≡ signed_decimal x.0 ++ x.1.now)) }
-    ensures only { (z : ℤ) (rest : List ℕ) → lowest ≤ℤ z → z ≤ℤ highest → starts_with_digit rest ≡ false
+    ensures only { (z : ℤ) (rest : List ℕ) → lowest ≤ℤ z → z ≤ℤ highest
+        → starts_with_digit rest ≡ false
         → bytes.now ≡ signed_decimal z ++ rest
         → IsOkAnd result (λ x. (x.0 ≡ z) × (x.1.now ≡ rest)) }
 
@@ -130,7 +131,8 @@ pub fn wide_integer(bytes: &[u8], lowest: i128, highest: i128) -> Result<(i128, 
     requires highest { pos 0 ≤ℤ highest }
     ensures found { IfOk result
         (λ x. (lowest ≤ℤ x.0) × (x.0 ≤ℤ highest) × (bytes.now ≡ signed_decimal x.0 ++ x.1.now)) }
-    ensures only { (z : ℤ) (rest : List ℕ) → lowest ≤ℤ z → z ≤ℤ highest → starts_with_digit rest ≡ false
+    ensures only { (z : ℤ) (rest : List ℕ) → lowest ≤ℤ z → z ≤ℤ highest
+        → starts_with_digit rest ≡ false
         → bytes.now ≡ signed_decimal z ++ rest
         → IsOkAnd result (λ x. (x.0 ≡ z) × (x.1.now ≡ rest)) }
     ensures exact { Reads (λ x. (x.0, x.1.now)) result
