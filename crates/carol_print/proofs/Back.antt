@@ -1,9 +1,8 @@
 -- A canonical text is read back as the tree that it was made of.
-use Rattle.std.proofs.Common.{◌≡◌, ℕ, List, refl, sym, ◌∙◌, subst, ap}
+use Rattle.std.proofs.Common.{◌≡◌, ℕ, List, refl, subst}
 use Rattle.carol_syntax.specs.Files.{FileTree}
 use Rattle.carol_syntax.specs.Unplaced.{SameButPlaces}
 use Rattle.carol_syntax.specs.Shape.{IsFile}
-use Rattle.carol_syntax_tokens.specs.declared.lexeme.Lexemes.{Lexemes}
 use Rattle.carol_syntax_tokens.specs.declared.lexeme.Stop.TheVariants as stop_of
 use Rattle.carol_syntax_tokens.specs.declared.place.Place.{Place}
 use Rattle.carol_print_canon.specs.Pieces.{Piece, text_of, AreLaidOut, CutAgain}
