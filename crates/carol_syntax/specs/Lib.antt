@@ -5,3 +5,4 @@ pub mod Files
 pub mod Unplaced
 pub mod Words
 pub mod Shape
+pub mod Size
