@@ -13,3 +13,6 @@ pub mod AlikeRule
 pub mod AlikeDeep
 pub mod Answered
 pub mod Repeating
+pub mod Says
+pub mod Given
+pub mod Lacks

@@ -29,7 +29,7 @@ pub not_true : (a : Bool) → not a ≡ true → a ≡ false
 not_true true h = cc
 not_true false h = refl
 
-true_false : (a : Bool) → (a ≡ true → a ≡ false) → a ≡ false
+pub true_false : (a : Bool) → (a ≡ true → a ≡ false) → a ≡ false
 true_false true h = h refl
 true_false false h = refl
 
