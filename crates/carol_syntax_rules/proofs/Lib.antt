@@ -1,2 +1,3 @@
 pub mod RulesSound
 pub mod OneTree
+pub mod TokenKinds
