@@ -1,3 +1,4 @@
 mod Places
 mod Fits
 mod Steps
+mod Terms
