@@ -2,3 +2,4 @@ mod Places
 mod Fits
 mod Steps
 mod Terms
+mod Formulas

@@ -44,6 +44,15 @@ step_gives {f = f} {m = m} {o = o} p h = says_gives p (λ ts v a. record {
   grows = λ before q. let e : nodes before + m v ≤ nodes (push ts before) = a.grows before q in let l : o (f v) ≤ m v = h v in omega arith;
 })
 
+-- behind a word that counts n, and before one
+pub step_behind : {A B : Type 0} {r : RuleOf A} {s : RuleOf B} {P Q S : List Lexeme → Type 0} {n : ℕ} {m : B → ℕ} → Tells r (Step P Q (λ v. n))
+    → Tells s (Step Q S m) → Tells (gives (λ p. p.1) (both r s)) (Step P S (λ v. n + m v))
+step_behind p q = step_gives (step_both p q) (λ v. omega arith)
+
+pub step_before : {A B : Type 0} {r : RuleOf A} {s : RuleOf B} {P Q S : List Lexeme → Type 0} {m : A → ℕ} → Tells r (Step P Q m)
+    → Tells s (Step Q S (λ v. 0)) → Tells (gives (λ p. p.0) (both r s)) (Step P S m)
+step_before p q = step_gives (step_both p q) (λ v. omega arith)
+
 pub step_fresh : {A : Type 0} {r : RuleOf A} {Q : List Lexeme → Type 0} {m : A → ℕ} → Tells r (Step Quiet Q m) → Tells r (Step Fresh Q m)
 step_fresh p = says_less p (λ ts v a. record { behind = λ before f. a.behind before f.quiet; grows = λ before f. a.grows before f.quiet })
 

@@ -11,10 +11,10 @@ use Rattle.carol_syntax.specs.declared.formulas.TermDecl.{TermDecl}
 use Rattle.carol_syntax_tokens.specs.declared.kind.Kind.{Kind}
 use Rattle.carol_syntax_tokens.specs.declared.kind.Kind.TheVariants as k
 use Rattle.carol_syntax_rules.specs.Terminals.{number_of}
-use Rattle.carol_syntax_rules.specs.Rules.{behind_word, numbers, name, member, path, outcome_value, dotted, plain_value, side, sized, size_value, value, times_value, multiple, product, next_product, first_product, more_products, term}
-use Rattle.carol_parse_size.proofs.Places.{Quiet, Fresh, Good, resets, openers, joints}
+use Rattle.carol_syntax_rules.specs.Rules.{numbers, name, member, path, outcome_value, dotted, plain_value, side, sized, size_value, value, times_value, multiple, product, next_product, first_product, more_products, term}
+use Rattle.carol_parse_size.proofs.Places.{Quiet, Fresh, Good, resets, openers}
 use Rattle.carol_parse_size.proofs.Fits.{Step, Tells}
-use Rattle.carol_parse_size.proofs.Steps.{total, step_both, step_many, step_gives, step_fresh, step_counted, step_sign, step_opener, step_led, step_given}
+use Rattle.carol_parse_size.proofs.Steps.{total, step_both, step_many, step_gives, step_behind, step_fresh, step_counted, step_sign, step_opener, step_led, step_given}
 
 total_one : {A : Type 0} (vs : List A) → length vs ≤ total (λ v. 1) vs
 total_one [] = omega arith
@@ -59,13 +59,12 @@ module _ (bytes : List ℕ) where
   unfolding product
   step_product = says_either (says_begins step_multiple) (step_gives step_value (λ v. omega arith))
 
-  step_behind : (kind : Kind) → apart (number_of kind ∷ []) resets ≡ true → apart (number_of kind ∷ []) joints ≡ true → Tells (behind_word kind (product bytes)) (Step Quiet Quiet (λ v. 1))
-  step_behind kind r j = step_gives (step_both (step_sign (number_of kind ∷ []) r j) step_product) (λ v. omega arith)
-
   step_next : Tells (next_product bytes) (Step Quiet Quiet (λ v. 1))
   unfolding number_of next_product
   step_next =
-      says_either (step_gives (step_behind k.Plus refl refl) (λ v. omega arith)) (step_gives (step_behind k.Minus refl refl) (λ v. omega arith))
+      says_either
+      (step_gives (step_behind (step_sign (number_of k.Plus ∷ []) refl refl) step_product) (λ v. omega arith))
+      (step_gives (step_behind (step_sign (number_of k.Minus ∷ []) refl refl) step_product) (λ v. omega arith))
 
   step_first : Tells (first_product bytes) (Step Fresh Quiet (λ v. 1))
   unfolding number_of first_product
