@@ -3,3 +3,4 @@ mod Fits
 mod Steps
 mod Terms
 mod Formulas
+mod Statements
