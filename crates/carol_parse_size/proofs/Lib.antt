@@ -4,3 +4,4 @@ mod Steps
 mod Terms
 mod Formulas
 mod Statements
+mod Bodies
