@@ -1,5 +1,5 @@
--- Sentences without tokens of some kinds, and with at least one token.
-use Rattle.std.proofs.Common.{◌≡◌, ℕ, ◌≤◌, Bool, true, false, cond, ◌&&◌, ◌⊎◌, inl, inr, refl, List, [], ◌∷◌, ◌++◌, length, length-append, arith}
+-- Sentences without tokens of some kinds, and with no fewer than their values measure.
+use Rattle.std.proofs.Common.{◌≡◌, ℕ, ◌+◌, ◌≤◌, Bool, true, false, cond, ◌&&◌, ◌⊎◌, inl, inr, refl, List, [], ◌∷◌, ◌++◌, length, length-append, arith}
 use Rattle.carol_grammar.specs.Sets.{has, within, apart}
 use Rattle.carol_grammar.specs.Rule.{Rule}
 use Rattle.carol_grammar.specs.Rule.Rule.{token, both, gives, either, perhaps, many, begins, deeper}
@@ -51,17 +51,9 @@ module _ {T V : Type 0} {Value : V → Type 0} (kind : T → ℕ) (K : (v : V) �
   says_lacks known lack ks (begins js r) h = says_begins (says_lacks known lack ks r h)
   says_lacks known lack ks (deeper w) h = says_less (says_deeper w) (λ ts v x. record { none = without_less kind ks (known w) ts h (lack w ts v x) })
 
--- there is a token
-pub record Filled {T A : Type 0} (ts : List T) (v : A) : Type 0 where
-  pub some : 1 ≤ length ts
-
--- there are no more values than tokens
-pub record Counts {T A : Type 0} (ts : List T) (vs : List A) : Type 0 where
-  pub within : length vs ≤ length ts
-
-some_part : {T : Type 0} (xs ys : List T) → (1 ≤ length xs) ⊎ (1 ≤ length ys) → 1 ≤ length (xs ++ ys)
-some_part xs ys (inl h) = omega (arith, length-append xs ys)
-some_part xs ys (inr h) = omega (arith, length-append xs ys)
+-- the value measures no more than it has tokens
+pub record Few {T A : Type 0} (m : A → ℕ) (ts : List T) (v : A) : Type 0 where
+  pub within : m v ≤ length ts
 
 either_false : (a b : Bool) → cond a true b ≡ false → (a ≡ false) × (b ≡ false)
 either_false true b h = cc
@@ -71,20 +63,39 @@ both_false : (a b : Bool) → cond a b false ≡ false → (a ≡ false) ⊎ (b 
 both_false true b h = inr h
 both_false false b h = inl refl
 
-module _ {T V : Type 0} {Value : V → Type 0} (kind : T → ℕ) (K : (v : V) → Language T (Value v)) where
-  pub says_filled : ((v : V) (ts : List T) (x : Value v) → K v ts x → 1 ≤ length ts) → {A : Type 0} (r : Rule T V Value A) → may_be_empty r ≡ false → Says kind K r Filled
-  says_filled some (token js f) h = says_token (λ t e. record { some = omega arith })
+module _ {T V : Type 0} {Value : V → Type 0} {kind : T → ℕ} {K : (v : V) → Language T (Value v)} where
+  pub few_gives : {A B : Type 0} {r : Rule T V Value A} {f : A → B} {m : A → ℕ} {n : B → ℕ} → Says kind K r (Few m) → ((v : A) → n (f v) ≤ m v) → Says kind K (gives f r) (Few n)
+  few_gives {f = f} {m = m} {n = n} p h = says_gives p (λ ts v a. record { within = let l : n (f v) ≤ m v = h v in omega (arith, a.within) })
+
+  pub few_both : {A B : Type 0} {r : Rule T V Value A} {s : Rule T V Value B} {m : A → ℕ} {n : B → ℕ} → Says kind K r (Few m) → Says kind K s (Few n) → Says kind K (both r s) (Few (λ p. m p.0 + n p.1))
+  few_both p q = says_both p q (λ xs ys v a b. record { within = omega (arith, length-append xs ys, a.within, b.within) })
+
+  -- what measures nothing
+  pub few_none : {A : Type 0} {r : Rule T V Value A} → Says kind K r (Few (λ v. 0))
+  few_none = says_less says_any (λ ts v u. record { within = omega arith })
+
+  -- behind a word, and before one
+  pub few_behind : {A B : Type 0} {r : Rule T V Value A} {s : Rule T V Value B} {m : B → ℕ} → Says kind K s (Few m) → Says kind K (gives (λ p. p.1) (both r s)) (Few m)
+  few_behind p = few_gives (few_both few_none p) (λ v. omega arith)
+
+  pub few_before : {A B : Type 0} {r : Rule T V Value A} {s : Rule T V Value B} {m : A → ℕ} → Says kind K r (Few m) → Says kind K (gives (λ p. p.0) (both r s)) (Few m)
+  few_before p = few_gives (few_both p few_none) (λ v. omega arith)
+
+  -- where each has a token there are no more of them than tokens
+  pub few_many : {A : Type 0} {r : Rule T V Value A} → Says kind K r (Few (λ v. 1)) → Says kind K (many r) (Few length)
+  few_many p = says_many p (record { within = omega arith }) (λ xs ys v vs a b. record { within = omega (arith, length-append xs ys, a.within, b.within) })
+
+  -- a sentence of a rule that is never empty has a token
+  pub says_filled : ((v : V) (ts : List T) (x : Value v) → K v ts x → 1 ≤ length ts) → {A : Type 0} (r : Rule T V Value A) → may_be_empty r ≡ false → Says kind K r (Few (λ v. 1))
+  says_filled some (token js f) h = says_token (λ t e. record { within = omega arith })
   says_filled some (both r s) h = elim (both_false (may_be_empty r) (may_be_empty s) h) [
-    | inl e ↦ says_both (says_filled some r e) says_any (λ xs ys p a b. record { some = some_part xs ys (inl a.some) })
-    | inr e ↦ says_both says_any (says_filled some s e) (λ xs ys p a b. record { some = some_part xs ys (inr b.some) })
+    | inl e ↦ says_less (few_both (says_filled some r e) few_none) (λ ts v a. record { within = omega (arith, a.within) })
+    | inr e ↦ says_less (few_both few_none (says_filled some s e)) (λ ts v a. record { within = omega (arith, a.within) })
   ]
-  says_filled some (gives f r) h = says_gives (says_filled some r h) (λ ts v a. record { some = a.some })
+  says_filled some (gives f r) h = few_gives (says_filled some r h) (λ v. omega arith)
   says_filled some (either r s) h =
       let parts = either_false (may_be_empty r) (may_be_empty s) h in says_either (says_filled some r parts.0) (says_filled some s parts.1)
   says_filled some (perhaps r) h = absurd cc
   says_filled some (many r) h = absurd cc
   says_filled some (begins js r) h = says_begins (says_filled some r h)
-  says_filled some (deeper w) h = says_less (says_deeper w) (λ ts v x. record { some = some w ts v x })
-
-  pub says_counts : {A : Type 0} {r : Rule T V Value A} → Says kind K r Filled → Says kind K (many r) Counts
-  says_counts p = says_many p (record { within = omega arith }) (λ xs ys v vs a b. record { within = omega (arith, length-append xs ys, a.some, b.within) })
+  says_filled some (deeper w) h = says_less (says_deeper w) (λ ts v x. record { within = some w ts v x })

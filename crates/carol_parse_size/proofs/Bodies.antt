@@ -7,7 +7,7 @@ use Rattle.carol_grammar.specs.Reading.{may_be_empty}
 use Rattle.carol_grammar.proofs.SetLemmas.{apart_right}
 use Rattle.carol_grammar.proofs.Says.{Joined, says_token, says_gives, says_less, says_two, says_both, says_joined, says_deeper}
 use Rattle.carol_grammar.proofs.Given.{push, push-append, Stand, stand_front, stand_back, Anywhere, Given, hold_before, hold_opened}
-use Rattle.carol_grammar.proofs.Lacks.{Without, Counts, avoids}
+use Rattle.carol_grammar.proofs.Lacks.{Without, Few, avoids}
 use Rattle.carol_syntax.specs.declared.bodies.Statement.{Statement}
 use Rattle.carol_syntax.specs.Formulas.{FormulaTree}
 use Rattle.carol_syntax.specs.Bodies.{BodyTree, Return, If}
@@ -23,7 +23,7 @@ use Rattle.carol_parse_size.proofs.Places.{Fresh, Good, braces, joints, push_fre
 use Rattle.carol_parse_size.proofs.Fits.{Nests, EndsSmall, EndFits, Tells, known, ends, lacks, filled}
 use Rattle.carol_parse_size.proofs.Terms.{hold_term}
 use Rattle.carol_parse_size.proofs.Formulas.{hold_formula}
-use Rattle.carol_parse_size.proofs.Statements.{opens, hold_statements, counts_statements}
+use Rattle.carol_parse_size.proofs.Statements.{opens, hold_statements, few_statements}
 
 -- Rules without braces, and one rule behind another.
 
@@ -94,7 +94,7 @@ falls t before e = ap (depth_with (depth before)) e
 
 -- the statements before the end of a body
 abbrev PlainsFit : List Lexeme → List Statement → Type 0
-PlainsFit ts plain = Nests Anywhere (AllByRecursion IsSizedStatement) (λ v. 0) (λ v. 0) ts plain × Counts ts plain
+PlainsFit ts plain = Nests Anywhere (AllByRecursion IsSizedStatement) (λ v. 0) (λ v. 0) ts plain × Few length ts plain
 
 -- the end of a body and the brace behind it
 record Closed (ts : List Lexeme) (end : List Statement → BodyTree) : Type 0 where
@@ -141,7 +141,7 @@ body_fits ts p j =
 module _ (bytes : List ℕ) where
   plains_fit : Tells (plains bytes) PlainsFit
   unfolding number_of plain query release binding issue atom change term first_product next_product product multiple times_value value size_value sized plain_value dotted outcome_value path member name
-  plains_fit = says_two (nests_plain (plains bytes) refl (hold_statements bytes)) (counts_statements bytes)
+  plains_fit = says_two (nests_plain (plains bytes) refl (hold_statements bytes)) (few_statements bytes)
 
   pub nests_body : Tells (body bytes) (Nests Anywhere HasSizedParts body_depth statement_count)
   unfolding body
@@ -164,7 +164,7 @@ end_fits {r = r} {d = d} {c = c} f p a m parts low few = says_gives (says_two p 
   low = low v;
   few = few v;
   lack = h.1.0.none;
-  some = h.1.1.some;
+  some = h.1.1.within;
 })
 
 pub answer_fits : (bytes : List ℕ) → Tells (answer bytes) EndFits

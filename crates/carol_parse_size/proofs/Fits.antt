@@ -5,7 +5,7 @@ use Rattle.carol_grammar.specs.Sentence.{Language}
 use Rattle.carol_grammar.specs.Reading.{may_be_empty}
 use Rattle.carol_grammar.proofs.Says.{Says}
 use Rattle.carol_grammar.proofs.Given.{push, Stand, Anywhere}
-use Rattle.carol_grammar.proofs.Lacks.{Without, Lacks, avoids, says_lacks, Filled, says_filled}
+use Rattle.carol_grammar.proofs.Lacks.{Without, Lacks, avoids, says_lacks, Few, says_filled}
 use Rattle.carol_syntax.specs.declared.bodies.Statement.{Statement}
 use Rattle.carol_syntax.specs.Formulas.{FormulaTree}
 use Rattle.carol_syntax.specs.Bodies.{BodyTree}
@@ -78,5 +78,5 @@ has_some ending ts x f = f.some
 pub lacks : (ks : List ℕ) {A : Type 0} (r : RuleOf A) → avoids known ks r ≡ true → Tells r (Lacks class_of ks)
 lacks ks r h = says_lacks class_of Fits known lacks_known ks r h
 
-pub filled : {A : Type 0} (r : RuleOf A) → may_be_empty r ≡ false → Tells r Filled
-filled r h = says_filled class_of Fits has_some r h
+pub filled : {A : Type 0} (r : RuleOf A) → may_be_empty r ≡ false → Tells r (Few (λ v. 1))
+filled r h = says_filled has_some r h

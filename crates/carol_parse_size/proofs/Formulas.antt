@@ -91,7 +91,7 @@ module _ (bytes : List ℕ) where
   step_atom = says_either (step_constant k.True True refl refl (omega arith)) (says_either (step_constant k.False False refl refl (omega arith)) step_comparison)
 
 literal_fits : {r : RuleOf FormulaTree} → Tells r (Step Fresh Quiet formula_size) → avoids known braces_and_ends r ≡ true → may_be_empty r ≡ false → Tells r LiteralFits
-literal_fits {r = r} p h g = says_less (says_two p (says_two (lacks braces_and_ends r h) (filled r g))) (λ ts v a. record { step = a.0; lack = a.1.0.none; some = a.1.1.some })
+literal_fits {r = r} p h g = says_less (says_two p (says_two (lacks braces_and_ends r h) (filled r g))) (λ ts v a. record { step = a.0; lack = a.1.0.none; some = a.1.1.within })
 
 pub atom_fits : (bytes : List ℕ) → Tells (atom_literal bytes) LiteralFits
 unfolding number_of atom_literal comparison sign term first_product next_product product multiple times_value value size_value sized plain_value dotted outcome_value path member name

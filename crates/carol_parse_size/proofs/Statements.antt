@@ -1,13 +1,12 @@
 -- Statements within the limits, and lists no longer than their tokens.
-use Rattle.std.proofs.Common.{◌≡◌, ℕ, ◌+◌, ◌≤◌, true, false, List, [], ◌∷◌, ◌++◌, length, length-append, refl, arith}
+use Rattle.std.proofs.Common.{◌≡◌, ℕ, ◌+◌, ◌≤◌, true, false, List, [], ◌∷◌, ◌++◌, length, refl, arith}
 use Rattle.std.specs.List.{AllByRecursion}
 use Rattle.carol_grammar.specs.Sets.{apart}
-use Rattle.carol_grammar.specs.Rule.Rule.{many}
 use Rattle.carol_grammar.specs.Reading.{may_be_empty}
 use Rattle.carol_grammar.proofs.SetLemmas.{apart_right}
-use Rattle.carol_grammar.proofs.Says.{says_token, says_gives, says_less, says_two, says_both, says_either, says_begins}
+use Rattle.carol_grammar.proofs.Says.{says_token, says_less, says_two, says_either, says_begins}
 use Rattle.carol_grammar.proofs.Given.{push, Stand, stand_end, Anywhere, Given, Opens, hold_any, hold_gives, hold_both, hold_many, hold_behind, hold_before, hold_opened}
-use Rattle.carol_grammar.proofs.Lacks.{Filled, Counts, says_counts}
+use Rattle.carol_grammar.proofs.Lacks.{Few, few_gives, few_both, few_many}
 use Rattle.carol_syntax.specs.Size.{most_items, AreSized, IsSizedChange, IsSizedAtom, IsSizedStatement}
 use Rattle.carol_syntax_tokens.specs.declared.kind.Kind.{Kind}
 use Rattle.carol_syntax_tokens.specs.declared.kind.Kind.TheVariants as k
@@ -15,7 +14,7 @@ use Rattle.carol_syntax_tokens.specs.declared.lexeme.Lexeme.{Lexeme}
 use Rattle.carol_syntax_rules.specs.Terminals.{number_of, class_of}
 use Rattle.carol_syntax_rules.specs.Rules.{RuleOf, word, behind_word, listed, name, path, change, atom, query, release, binding, issue, plain, plains}
 use Rattle.carol_parse_size.proofs.Places.{Fresh, Good, joints, push_fresh}
-use Rattle.carol_parse_size.proofs.Fits.{Fits, Tells, filled}
+use Rattle.carol_parse_size.proofs.Fits.{Tells, filled}
 use Rattle.carol_parse_size.proofs.Terms.{hold_term}
 
 -- a formula or a term begins behind the word
@@ -33,22 +32,16 @@ pub few_tokens : (ts before : List Lexeme) → Stand Good ts before → length t
 few_tokens ts before g = let end = stand_end Good ts before g in omega (arith, end.few, length_push ts before)
 
 -- a list that is no longer than its tokens
-pub hold_short : {A : Type 0} {r : RuleOf (List A)} {P : A → Type 0} → Tells r (Given Anywhere Good (AllByRecursion P)) → Tells r Counts → Tells r (Given Anywhere Good (AreSized P))
+pub hold_short : {A : Type 0} {r : RuleOf (List A)} {P : A → Type 0} → Tells r (Given Anywhere Good (AllByRecursion P)) → Tells r (Few length) → Tells r (Given Anywhere Good (AreSized P))
 hold_short p q = says_less (says_two p q) (λ ts vs h. record {
   holds = λ before s g. (omega (arith, few_tokens ts before g, h.1.within), h.0.holds before s g);
 })
 
-pub counts_many : {A : Type 0} (r : RuleOf A) → may_be_empty r ≡ false → Tells (many r) Counts
-counts_many r h = says_counts class_of Fits (filled r h)
-
-pub counts_listed : {A : Type 0} (r : RuleOf A) → may_be_empty r ≡ false → Tells (listed r) Counts
-counts_listed r h =
-    says_gives
-    (says_both {U = λ ts p. 1 + length p.1 ≤ length ts} (filled r h) (counts_many (behind_word k.Comma r) refl) (λ xs ys p a b. omega (arith, length-append xs ys, a.some, b.within)))
-    (λ ts p g. record { within = omega arith })
+pub few_listed : {A : Type 0} (r : RuleOf A) → may_be_empty r ≡ false → Tells (listed r) (Few length)
+few_listed r h = few_gives (few_both (filled r h) (few_many (filled (behind_word k.Comma r) refl))) (λ v. omega arith)
 
 pub hold_listed : {A : Type 0} (r : RuleOf A) {P : A → Type 0} → may_be_empty r ≡ false → Tells r (Given Anywhere Good P) → Tells (listed r) (Given Anywhere Good (AreSized P))
-hold_listed r h p = hold_short (hold_gives (hold_both p (hold_many (hold_behind p))) (λ v h. h)) (counts_listed r h)
+hold_listed r h p = hold_short (hold_gives (hold_both p (hold_many (hold_behind p))) (λ v h. h)) (few_listed r h)
 
 module _ (bytes : List ℕ) where
   hold_change : Tells (change bytes) (Given Anywhere Good IsSizedChange)
@@ -87,6 +80,6 @@ module _ (bytes : List ℕ) where
   pub hold_statements : Tells (plains bytes) (Given Anywhere Good (AllByRecursion IsSizedStatement))
   hold_statements = hold_many (says_begins hold_statement)
 
-  pub counts_statements : Tells (plains bytes) Counts
+  pub few_statements : Tells (plains bytes) (Few length)
   unfolding plain query release binding issue
-  counts_statements = counts_many _ refl
+  few_statements = few_many (says_begins (filled (plain bytes) refl))
