@@ -16,7 +16,7 @@ Without kind ks (t ∷ ts) = (has ks (kind t) ≡ false) × Without kind ks ts
 pub record Lacks {T A : Type 0} (kind : T → ℕ) (ks : List ℕ) (ts : List T) (v : A) : Type 0 where
   pub none : Without kind ks ts
 
-without_both : {T : Type 0} (kind : T → ℕ) (ks : List ℕ) (xs ys : List T) → Without kind ks xs → Without kind ks ys → Without kind ks (xs ++ ys)
+pub without_both : {T : Type 0} (kind : T → ℕ) (ks : List ℕ) (xs ys : List T) → Without kind ks xs → Without kind ks ys → Without kind ks (xs ++ ys)
 without_both kind ks [] ys h g = g
 without_both kind ks (x ∷ xs) ys h g = (h.0, without_both kind ks xs ys h.1 g)
 

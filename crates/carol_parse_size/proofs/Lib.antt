@@ -5,3 +5,4 @@ mod Terms
 mod Formulas
 mod Statements
 mod Bodies
+mod Programs
