@@ -2,28 +2,27 @@
 use Rattle.std.proofs.Common.{◌≡◌, ℕ, ◌+◌, ◌-◌, ◌≤◌, max, true, false, List, [], ◌∷◌, ◌++◌, length, length-append, sym, ◌∙◌, ap, subst, refl, arith}
 use Rattle.std.specs.List.{AllByRecursion}
 use Rattle.carol_grammar.specs.Sets.{has, apart}
-use Rattle.carol_grammar.specs.Rule.Rule.{both, gives, deeper}
+use Rattle.carol_grammar.specs.Rule.Rule.{both, gives}
 use Rattle.carol_grammar.specs.Reading.{may_be_empty}
 use Rattle.carol_grammar.proofs.SetLemmas.{apart_right}
 use Rattle.carol_grammar.proofs.Says.{Joined, says_token, says_gives, says_less, says_two, says_both, says_joined, says_deeper}
-use Rattle.carol_grammar.proofs.Given.{push, push-append, Stand, stand_front, stand_back, Anywhere, Given, hold_before, hold_opened}
+use Rattle.carol_grammar.proofs.Given.{push, push-append, Stand, stand_front, stand_back, Anywhere, Given, hold_before}
 use Rattle.carol_grammar.proofs.Lacks.{Without, Few, avoids}
 use Rattle.carol_syntax.specs.declared.bodies.Statement.{Statement}
-use Rattle.carol_syntax.specs.Formulas.{FormulaTree}
 use Rattle.carol_syntax.specs.Bodies.{BodyTree, Return, If}
-use Rattle.carol_syntax.specs.Size.{most_deep, body_depth, statement_count, IsSizedStatement, IsSizedFormula, HasSizedParts}
+use Rattle.carol_syntax.specs.Size.{body_depth, statement_count, IsSizedStatement, HasSizedParts}
 use Rattle.carol_syntax_tokens.specs.declared.kind.Kind.{Kind}
 use Rattle.carol_syntax_tokens.specs.declared.kind.Kind.TheVariants as k
 use Rattle.carol_syntax_tokens.specs.declared.lexeme.Lexeme.{Lexeme}
 use Rattle.carol_syntax_rules.specs.Terminals.{number_of, class_of}
 use Rattle.carol_syntax_rules.proofs.TokenKinds.{word_kind}
-use Rattle.carol_syntax_rules.specs.Rules.{RuleOf, ending, word, behind_word, before_word, name, member, path, outcome_value, dotted, plain_value, sized, size_value, value, times_value, multiple, product, next_product, first_product, term, sign, conjunction, formula, change, atom, query, release, binding, issue, plain, plains, body, answer, choice}
+use Rattle.carol_syntax_rules.specs.Rules.{RuleOf, ending, word, before_word, name, member, path, outcome_value, dotted, plain_value, sized, size_value, value, times_value, multiple, product, next_product, first_product, term, conjunction, formula, change, atom, query, release, binding, issue, plain, plains, body, answer, choice}
 use Rattle.carol_syntax_meaning.specs.Limits.{depth, depth_with}
 use Rattle.carol_parse_size.proofs.Places.{Fresh, Good, braces, joints, push_fresh, push_level}
 use Rattle.carol_parse_size.proofs.Fits.{Nests, EndsSmall, EndFits, Tells, known, ends, lacks, filled}
 use Rattle.carol_parse_size.proofs.Terms.{hold_term}
 use Rattle.carol_parse_size.proofs.Formulas.{hold_formula}
-use Rattle.carol_parse_size.proofs.Statements.{opens, hold_statements, few_statements}
+use Rattle.carol_parse_size.proofs.Statements.{hold_statements, few_statements}
 
 -- Rules without braces, and one rule behind another.
 

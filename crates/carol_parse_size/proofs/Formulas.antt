@@ -6,10 +6,10 @@ use Rattle.carol_grammar.specs.Rule.Rule.{gives, deeper}
 use Rattle.carol_grammar.specs.Reading.{may_be_empty}
 use Rattle.carol_grammar.proofs.SetLemmas.{apart_right}
 use Rattle.carol_grammar.proofs.Lacks.{avoids}
-use Rattle.carol_grammar.proofs.Says.{Says, says_less, says_two, says_either, says_begins, says_deeper}
+use Rattle.carol_grammar.proofs.Says.{says_less, says_two, says_either, says_begins, says_deeper}
 use Rattle.carol_grammar.proofs.Given.{Given}
 use Rattle.carol_syntax.specs.declared.formulas.Sign.{Sign}
-use Rattle.carol_syntax.specs.Formulas.{FormulaTree, True, False, Not, And, Or, Compare}
+use Rattle.carol_syntax.specs.Formulas.{FormulaTree, True, False, And, Or}
 use Rattle.carol_syntax.specs.Size.{formula_size, IsSizedFormula}
 use Rattle.carol_syntax_tokens.specs.declared.kind.Kind.{Kind}
 use Rattle.carol_syntax_tokens.specs.declared.kind.Kind.TheVariants as k
@@ -19,7 +19,7 @@ use Rattle.carol_syntax_rules.specs.Rules.{RuleOf, literal, word, sign_word, nam
 use Rattle.carol_parse_size.proofs.Places.{Quiet, Fresh, Good, counted, joints, push_kept, push_opening, resets}
 use Rattle.carol_parse_size.proofs.Fits.{Step, LiteralFits, Tells, known, lacks, filled, braces_and_ends}
 use Rattle.carol_parse_size.proofs.Steps.{total, step_both, step_many, step_gives, step_behind, step_before, step_fresh, step_token, step_counted, step_joint, step_silent, step_given}
-use Rattle.carol_parse_size.proofs.Terms.{products, step_term}
+use Rattle.carol_parse_size.proofs.Terms.{step_term}
 
 -- what is joined has the nodes of its parts, and one for each that joins them
 folded : (join : FormulaTree → FormulaTree → FormulaTree) → ((f g : FormulaTree) → formula_size (join f g) ≡ 1 + (formula_size f + formula_size g))

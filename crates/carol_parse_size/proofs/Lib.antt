@@ -6,3 +6,5 @@ mod Formulas
 mod Statements
 mod Bodies
 mod Programs
+mod Scripts
+mod Files

@@ -1,6 +1,6 @@
 -- How a token is counted where it stands, and what may come behind it.
-use Rattle.std.proofs.Common.{◌≡◌, ℕ, ◌+◌, ◌-◌, ◌≤◌, Bool, true, false, cond, not, eqb, ◌&&◌, List, [], ◌∷◌, length, Option, refl, sym, ap, subst, arith}
-use Rattle.std.specs.Prelude.{Some, None}
+use Rattle.std.proofs.Common.{◌≡◌, ℕ, ◌+◌, ◌≤◌, Bool, true, false, cond, not, eqb, ◌&&◌, List, [], ◌∷◌, length, Option, refl, sym, ap, subst, arith}
+use Rattle.std.specs.Prelude.{Some}
 use Rattle.carol_grammar.specs.Sets.{has}
 use Rattle.carol_syntax.specs.Size.{most_nodes, most_deep, most_items}
 use Rattle.carol_syntax_tokens.specs.declared.kind.Kind.{Kind}

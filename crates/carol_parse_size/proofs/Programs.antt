@@ -1,20 +1,17 @@
 -- Programs within the limits are small, and have one word `end`, their last.
-use Rattle.std.proofs.Common.{◌≡◌, ℕ, ◌+◌, ◌≤◌, true, false, List, [], ◌∷◌, ◌++◌, length, length-append, Option, append_assoc, ap, sym, ◌∙◌, refl, arith}
+use Rattle.std.proofs.Common.{◌≡◌, ℕ, ◌≤◌, List, [], ◌∷◌, ◌++◌, length, length-append, Option, append_assoc, ap, sym, ◌∙◌, refl, arith}
 use Rattle.std.specs.Prelude.{Some, None, IfSome}
-use Rattle.std.specs.List.{AllByRecursion}
-use Rattle.carol_grammar.specs.Sets.{apart}
 use Rattle.carol_grammar.specs.Rule.Rule.{both, gives}
 use Rattle.carol_grammar.proofs.Says.{says_token, says_gives, says_less, says_two, says_both, says_either, says_many, says_begins}
-use Rattle.carol_grammar.proofs.Given.{Stand, Anywhere, Given, hold_any, hold_gives, hold_both, hold_perhaps, hold_many, hold_behind, hold_before, hold_opened}
+use Rattle.carol_grammar.proofs.Given.{Anywhere, Given, hold_any, hold_gives, hold_both, hold_perhaps, hold_many, hold_behind, hold_before, hold_opened}
 use Rattle.carol_grammar.proofs.Lacks.{Without, without_both, Lacks, Few, few_gives, few_both, few_none, few_many, few_behind, few_before}
 use Rattle.carol_syntax.specs.declared.cells.CellDecl.{CellDecl}
-use Rattle.carol_syntax.specs.declared.cells.CellDecl.TheVariants as cell_of
-use Rattle.carol_syntax.specs.Size.{most_items, cell_count, cell_total, AreSized, IsSizedFormula, IsSizedNamed, IsSizedBody, IsSizedOp, IsSizedProgram}
+use Rattle.carol_syntax.specs.Size.{most_items, cell_count, cell_total, AreSized, IsSizedNamed, IsSizedBody, IsSizedOp, IsSizedProgram}
 use Rattle.carol_syntax_tokens.specs.declared.kind.Kind.TheVariants as k
 use Rattle.carol_syntax_tokens.specs.declared.lexeme.Lexeme.{Lexeme}
 use Rattle.carol_syntax_rules.specs.Terminals.{number_of, class_of}
-use Rattle.carol_syntax_rules.specs.Rules.{RuleOf, word, name, int, bit, whole_kind, flag_field, field, set_cell, record_cell, cell, cells, member, path, outcome_value, dotted, plain_value, sized, size_value, value, times_value, multiple, product, next_product, first_product, term, sign, conjunction, formula, change, atom, query, release, binding, issue, plain, body, guard, param, list_of, some_params, params, op, guards, ops, program}
-use Rattle.carol_parse_size.proofs.Places.{Fresh, Good}
+use Rattle.carol_syntax_rules.specs.Rules.{RuleOf, word, name, int, bit, whole_kind, flag_field, field, set_cell, record_cell, cell, cells, member, path, outcome_value, dotted, plain_value, sized, size_value, value, times_value, multiple, product, next_product, first_product, term, conjunction, formula, change, atom, query, release, binding, issue, plain, body, guard, param, list_of, some_params, params, op, guards, ops, program}
+use Rattle.carol_parse_size.proofs.Places.{Good}
 use Rattle.carol_parse_size.proofs.Fits.{Tells, ends, lacks, filled}
 use Rattle.carol_parse_size.proofs.Formulas.{hold_formula}
 use Rattle.carol_parse_size.proofs.Statements.{opens, few_tokens, hold_short, few_listed, hold_listed}

@@ -1,5 +1,5 @@
 -- Statements within the limits, and lists no longer than their tokens.
-use Rattle.std.proofs.Common.{◌≡◌, ℕ, ◌+◌, ◌≤◌, true, false, List, [], ◌∷◌, ◌++◌, length, refl, arith}
+use Rattle.std.proofs.Common.{◌≡◌, ℕ, ◌+◌, ◌≤◌, true, false, List, [], ◌∷◌, length, refl, arith}
 use Rattle.std.specs.List.{AllByRecursion}
 use Rattle.carol_grammar.specs.Sets.{apart}
 use Rattle.carol_grammar.specs.Reading.{may_be_empty}

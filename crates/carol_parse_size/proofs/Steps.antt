@@ -1,10 +1,10 @@
 -- Steps of tokens, one behind the other.
-use Rattle.std.proofs.Common.{◌≡◌, ℕ, ◌+◌, ◌≤◌, true, false, List, [], ◌∷◌, ◌++◌, add-zero, refl, sym, subst, arith}
+use Rattle.std.proofs.Common.{◌≡◌, ℕ, ◌+◌, ◌≤◌, true, List, [], ◌∷◌, ◌++◌, add-zero, refl, sym, subst, arith}
 use Rattle.carol_grammar.specs.Sets.{has, within, apart}
 use Rattle.carol_grammar.specs.Rule.Rule.{token, both, gives, many}
 use Rattle.carol_grammar.proofs.SetLemmas.{apart_right, has-within}
 use Rattle.carol_grammar.proofs.Says.{says_token, says_gives, says_less, says_both, says_many}
-use Rattle.carol_grammar.proofs.Given.{push, push-append, Stand, stand_end, Given}
+use Rattle.carol_grammar.proofs.Given.{push, push-append, stand_end, Given}
 use Rattle.carol_grammar.proofs.Lacks.{Without, avoids}
 use Rattle.carol_syntax.specs.Size.{most_nodes}
 use Rattle.carol_syntax_tokens.specs.declared.lexeme.Lexeme.{Lexeme}

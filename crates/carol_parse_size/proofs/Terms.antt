@@ -1,12 +1,11 @@
 -- Each product of a term counts.
-use Rattle.std.proofs.Common.{◌≡◌, ℕ, ◌+◌, ◌≤◌, true, List, [], ◌∷◌, length, refl, arith}
+use Rattle.std.proofs.Common.{◌≡◌, ℕ, ◌≤◌, true, List, [], ◌∷◌, length, refl, arith}
 use Rattle.carol_grammar.specs.Sets.{within, apart}
 use Rattle.carol_grammar.proofs.Says.{says_either, says_begins}
 use Rattle.carol_grammar.proofs.Given.{Given}
-use Rattle.carol_syntax.specs.Size.{most_nodes, IsSizedTerm}
+use Rattle.carol_syntax.specs.Size.{IsSizedTerm}
 use Rattle.carol_syntax.specs.declared.formulas.ValueKind.{ValueKind}
 use Rattle.carol_syntax.specs.declared.formulas.ValueKind.TheVariants as way
-use Rattle.carol_syntax.specs.declared.formulas.ProductDecl.{ProductDecl}
 use Rattle.carol_syntax.specs.declared.formulas.TermDecl.{TermDecl}
 use Rattle.carol_syntax_tokens.specs.declared.kind.Kind.{Kind}
 use Rattle.carol_syntax_tokens.specs.declared.kind.Kind.TheVariants as k
