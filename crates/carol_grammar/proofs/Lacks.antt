@@ -27,7 +27,8 @@ without_less : {T : Type 0} (kind : T → ℕ) (xs ys : List ℕ) (ts : List T) 
 without_less kind xs ys [] w h = tt
 without_less kind xs ys (t ∷ ts) w h = (has_none xs ys (kind t) w h.0, without_less kind xs ys ts w h.1)
 
--- no sentence of the rule has a token of these kinds, if those of a rule that reaches itself have none of the known ones
+-- no sentence of the rule has a token of these kinds, if those of a rule that reaches itself have
+-- none of the known ones
 abbrev pub avoids : {T V : Type 0} {Value : V → Type 0} {A : Type 0} → (V → List ℕ) → List ℕ → Rule T V Value A → Bool
 avoids known ks (token js f) = apart js ks
 avoids known ks (both r s) = avoids known ks r && avoids known ks s

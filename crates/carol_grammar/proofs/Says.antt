@@ -6,7 +6,8 @@ use Rattle.carol_grammar.specs.Rule.{Rule, Grammar, upper}
 use Rattle.carol_grammar.specs.Rule.Rule.{token, both, gives, either, perhaps, many, begins, deeper}
 use Rattle.carol_grammar.specs.Sentence.{Language, Repeats, Perhaps, Sentence, Deep, IsSentence}
 
--- R holds of the tokens and the value of each sentence of the rule, where K holds of what stands a level deeper.
+-- R holds of the tokens and the value of each sentence of the rule, where K holds of what stands a
+-- level deeper.
 pub record Says {T V : Type 0} {Value : V → Type 0} (kind : T → ℕ) (K : (v : V) → Language T (Value v)) {A : Type 0} (r : Rule T V Value A) (R : Language T A) : Type 1 where
   pub each : (n : ℕ) (deep : (v : V) → Language T (Value v)) → ((v : V) (ts : List T) (x : Value v) → deep v ts x → K v ts x)
       → (ts : List T) (v : A) → Sentence kind n deep r ts v → R ts v

@@ -63,7 +63,7 @@ has-within (x ∷ xs) ys k w h =
     (λ h'. has-within xs ys k (and_right (has ys x) _ w) h')
 
 -- sets that are apart share nothing
-apart_right : (xs ys : List ℕ) (k : ℕ) → apart xs ys ≡ true → has xs k ≡ true → has ys k ≡ false
+pub apart_right : (xs ys : List ℕ) (k : ℕ) → apart xs ys ≡ true → has xs k ≡ true → has ys k ≡ false
 apart_right [] ys k a h = cc
 apart_right (x ∷ xs) ys k a h =
     member (has ys k ≡ false) k x (eqb k x) (has xs k) refl h

@@ -11,7 +11,8 @@ use Rattle.carol_grammar.proofs.Given.{push, Stand, Anywhere, Given}
 use Rattle.carol_grammar.proofs.Lacks.{Without}
 use Rattle.carol_syntax.specs.declared.scenes.SceneDecl.{SceneDecl}
 use Rattle.carol_syntax.specs.Files.{ProgramTree, FileTree}
-use Rattle.carol_syntax.specs.Size.{most_items, most_lines, IsSizedProgram, IsSized}
+use Rattle.carol_syntax.specs.Limits.{most_script_lines}
+use Rattle.carol_syntax.specs.Size.{most_items, IsSizedProgram, IsSized}
 use Rattle.carol_syntax_tokens.specs.declared.kind.Kind.{Kind}
 use Rattle.carol_syntax_tokens.specs.declared.kind.Kind.TheVariants as k
 use Rattle.carol_syntax_tokens.specs.declared.lexeme.Lexeme.{Lexeme}
@@ -52,7 +53,7 @@ either_true true b h = inl refl
 either_true false b h = inr h
 
 ends_early : (t : Lexeme) → (is_end t.kind && nat_le t.to (most ProgramBytes)) ≡ true → t.to ≤ most_items
-ends_early t h = let e : nat_le t.to 65_536 ≡ true = and_right (is_end t.kind) (nat_le t.to 65_536) h in grind (arith, nat_tests)
+ends_early t h = let e : nat_le t.to most_items ≡ true = and_right (is_end t.kind) (nat_le t.to most_items) h in grind (arith, nat_tests)
 
 -- where a word `end` stands within the bytes of a program part, the tokens begin within them
 begins_within : (from : ℕ) (ts : List Lexeme) (to : ℕ) → StandBetween from ts to → ends_within ts ≡ true → from + 1 ≤ most_items
@@ -117,9 +118,9 @@ module _ (bytes : List ℕ) (list : List Lexeme) (small : NonePast bytes list) w
   all_good [] before more e n = good_at before more e (omega arith)
   all_good (t ∷ ts) before more e n = (good_at before (t ∷ (ts ++ more)) e (omega arith), all_good ts (t ∷ before) more e (omega arith))
 
-  few_lines : lines list ≤ most_lines
+  few_lines : lines list ≤ most_script_lines
   few_lines =
-      let all : lines (push list []) ≤ most_lines = within_limit ScriptLines list (small ScriptLines) (push list []) [] (sym (append-nil list) ∙ sym (push_back list [] [])) in
+      let all : lines (push list []) ≤ most_script_lines = within_limit ScriptLines list (small ScriptLines) (push list []) [] (sym (append-nil list) ∙ sym (push_back list [] [])) in
       omega (arith, lines_push list [], all)
 
   -- the tokens of the program part are few
@@ -129,12 +130,12 @@ module _ (bytes : List ℕ) (list : List Lexeme) (small : NonePast bytes list) w
       of_test : (b : Bool) → ends_within list ≡ b → length front + 1 ≤ most_items
       of_test true h = omega (arith, few_up_to 0 front last more to (subst (λ (z : List Lexeme). StandBetween 0 z to) e s) w (subst (λ z. ends_within z ≡ true) e h))
       of_test false h =
-          let short : 65_536 < length bytes → ⊥ = λ l. small ProgramBytes 65_536 (record { place = refl; longer = l; unfinished = h }) in
+          let short : most_items < length bytes → ⊥ = λ l. small ProgramBytes most_items (record { place = refl; longer = l; unfinished = h }) in
           omega (arith, few_between 0 list to s, ap length e, length-append front (last ∷ more))
 
 -- What a file says.
 
-sized_of : (tail : ℕ) (p : ProgramTree) (o : Option (SceneDecl × Option Sequel)) → IsSizedProgram p → stage_lines o ≤ most_lines → IsSized (file_of tail p o)
+sized_of : (tail : ℕ) (p : ProgramTree) (o : Option (SceneDecl × Option Sequel)) → IsSizedProgram p → stage_lines o ≤ most_script_lines → IsSized (file_of tail p o)
 sized_of tail p None h g = record { program = h; script = tt }
 sized_of tail p (Some (s, None)) h g = record { program = h; script = tt }
 sized_of tail p (Some (s, Some (Scripted ls))) h g = record { program = h; script = g }

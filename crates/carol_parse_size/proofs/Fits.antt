@@ -9,7 +9,8 @@ use Rattle.carol_grammar.proofs.Lacks.{Without, Lacks, avoids, says_lacks, Few, 
 use Rattle.carol_syntax.specs.declared.bodies.Statement.{Statement}
 use Rattle.carol_syntax.specs.Formulas.{FormulaTree}
 use Rattle.carol_syntax.specs.Bodies.{BodyTree}
-use Rattle.carol_syntax.specs.Size.{most_deep, formula_size, body_depth, statement_count, IsSizedStatement, HasSizedParts}
+use Rattle.carol_syntax.specs.Limits.{most_body_depth}
+use Rattle.carol_syntax.specs.Size.{formula_size, body_depth, statement_count, IsSizedStatement, HasSizedParts}
 use Rattle.carol_syntax_tokens.specs.declared.kind.Kind.TheVariants as k
 use Rattle.carol_syntax_tokens.specs.declared.lexeme.Lexeme.{Lexeme}
 use Rattle.carol_syntax_rules.specs.Terminals.{number_of, class_of}
@@ -17,17 +18,18 @@ use Rattle.carol_syntax_rules.specs.Rules.{Knot, KnotValue, literal, ending, Rul
 use Rattle.carol_syntax_meaning.specs.Limits.{nodes, depth}
 use Rattle.carol_parse_size.proofs.Places.{Quiet, Fresh, Good}
 
--- behind tokens of which P holds, those of the sentence lead to Q, and count at least what its value measures
+-- behind tokens of which P holds, those of the sentence lead to Q, and count at least what its
+-- value measures
 pub record Step {A : Type 0} (P Q : List Lexeme → Type 0) (m : A → ℕ) (ts : List Lexeme) (v : A) : Type 0 where
   pub behind : (before : List Lexeme) → P before → Q (push ts before)
   pub grows : (before : List Lexeme) → P before → nodes before + m v ≤ nodes (push ts before)
 
--- the braces of the tokens are closed among them; within the limits the parts of the value are small and its bodies
--- stand not too deep; and each of its statements has a token
+-- the braces of the tokens are closed among them; within the limits the parts of the value are
+-- small and its bodies stand not too deep; and each of its statements has a token
 pub record Nests {A : Type 0} (Start : List Lexeme → Type 0) (P : A → Type 0) (deep size : A → ℕ) (ts : List Lexeme) (v : A) : Type 0 where
   pub level : (before : List Lexeme) → depth (push ts before) ≡ depth before
   pub parts : (before : List Lexeme) → Start before → Stand Good ts before → P v
-  pub shallow : (before : List Lexeme) → Stand Good ts before → depth before + deep v ≤ most_deep
+  pub shallow : (before : List Lexeme) → Stand Good ts before → depth before + deep v ≤ most_body_depth
   pub short : size v ≤ length ts
 
 abbrev pub ends : List ℕ

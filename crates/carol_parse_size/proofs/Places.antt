@@ -1,12 +1,14 @@
 -- How a token is counted where it stands, and what may come behind it.
-use Rattle.std.proofs.Common.{◌≡◌, ℕ, ◌+◌, ◌≤◌, Bool, true, false, cond, not, eqb, ◌&&◌, List, [], ◌∷◌, length, Option, refl, sym, ap, subst, arith}
+use Rattle.std.proofs.Common.{◌≡◌, ℕ, ◌+◌, ◌≤◌, Bool, true, false, cond, not, eqb, ◌&&◌, List, [], ◌∷◌, ◌++◌, length, Option, refl, sym, ap, subst, arith}
 use Rattle.std.specs.Prelude.{Some}
 use Rattle.carol_grammar.specs.Sets.{has}
-use Rattle.carol_syntax.specs.Size.{most_nodes, most_deep, most_items}
+use Rattle.carol_syntax.specs.Limits.{most_formula_nodes, most_body_depth}
+use Rattle.carol_syntax.specs.Size.{most_items}
 use Rattle.carol_syntax_tokens.specs.declared.kind.Kind.{Kind}
 use Rattle.carol_syntax_tokens.specs.declared.kind.Kind.TheVariants as k
 use Rattle.carol_syntax_tokens.specs.declared.lexeme.Lexeme.{Lexeme}
 use Rattle.carol_syntax_rules.specs.Terminals.{number_of, class_of, numeral}
+use Rattle.carol_syntax_rules.specs.Rules.{numbers}
 use Rattle.carol_syntax_meaning.specs.Limits.{latest, second, is_name, is_let, is_size, counts_anew, begins_value, weight, nodes_with, nodes, depth, depth_with}
 
 -- behind these no `=` counts anew
@@ -22,8 +24,8 @@ pub record Fresh (before : List Lexeme) : Type 0 where
 
 -- the counts are within the limits, and the tokens are few
 pub record Good (before : List Lexeme) : Type 0 where
-  pub few_nodes : nodes before ≤ most_nodes
-  pub shallow : depth before ≤ most_deep
+  pub few_nodes : nodes before ≤ most_formula_nodes
+  pub shallow : depth before ≤ most_body_depth
   pub few : length before ≤ most_items
 
 -- Classes of tokens.
@@ -38,7 +40,7 @@ resets =
 -- those that count wherever they stand
 abbrev pub counted : List ℕ
 counted =
-    100 ∷ 101 ∷ 102 ∷ number_of k.True ∷ number_of k.False ∷ number_of k.Not ∷ number_of k.And ∷ number_of k.Or ∷
+    numbers ++ number_of k.True ∷ number_of k.False ∷ number_of k.Not ∷ number_of k.And ∷ number_of k.Or ∷
     number_of k.AtMost ∷ number_of k.Below ∷ number_of k.AtLeast ∷ number_of k.Above ∷ number_of k.Equals ∷
     number_of k.Differs ∷ []
 

@@ -6,7 +6,7 @@ use Rattle.carol_grammar.proofs.SetLemmas.{apart_right, has-within}
 use Rattle.carol_grammar.proofs.Says.{says_token, says_gives, says_less, says_both, says_many}
 use Rattle.carol_grammar.proofs.Given.{push, push-append, stand_end, Given}
 use Rattle.carol_grammar.proofs.Lacks.{Without, avoids}
-use Rattle.carol_syntax.specs.Size.{most_nodes}
+use Rattle.carol_syntax.specs.Limits.{most_formula_nodes}
 use Rattle.carol_syntax_tokens.specs.declared.lexeme.Lexeme.{Lexeme}
 use Rattle.carol_syntax_rules.specs.Terminals.{class_of}
 use Rattle.carol_syntax_rules.specs.Rules.{RuleOf}
@@ -104,7 +104,7 @@ pub step_led : {A B C : Type 0} {r : RuleOf A} {f : A × B → C} {P : List Lexe
 step_led p s h = step_gives (step_both p (step_silent s h)) (λ v. omega arith)
 
 -- what counts within the limits is small
-pub step_given : {A : Type 0} {r : RuleOf A} {Q : List Lexeme → Type 0} {m : A → ℕ} → Tells r (Step Fresh Q m) → Tells r (Given Fresh Good (λ v. m v ≤ most_nodes))
+pub step_given : {A : Type 0} {r : RuleOf A} {Q : List Lexeme → Type 0} {m : A → ℕ} → Tells r (Step Fresh Q m) → Tells r (Given Fresh Good (λ v. m v ≤ most_formula_nodes))
 step_given {m = m} p = says_less p (λ ts v a. record {
   holds = λ before f g.
       let e : nodes before + m v ≤ nodes (push ts before) = a.grows before f in

@@ -6,7 +6,8 @@ use Rattle.carol_syntax_tokens.specs.declared.lexeme.Lexemes.{Lexemes}
 use Rattle.carol_syntax_tokens.specs.Cut.{StandBetween}
 use Rattle.carol_syntax_meaning.specs.Outcome.{IsRead}
 
--- What is read of a text whose tokens stand one behind the other within its bytes is as small as the limits make it.
+-- What is read of a text whose tokens stand one behind the other within its bytes is as small as
+-- the limits make it.
 abbrev pub ReadIsSized : Type 0
 ReadIsSized = (bytes : List ℕ) (parts : Lexemes) (f : FileTree) → StandBetween 0 parts.list parts.end.offset
     → parts.end.offset ≤ length bytes → IsRead bytes parts f → IsSized f

@@ -5,7 +5,8 @@ use Rattle.carol_syntax.specs.declared.formulas.Sign.{Sign}
 use Rattle.carol_syntax.specs.declared.bodies.Statement.{Statement}
 use Rattle.carol_syntax.specs.Formulas.{FormulaTree, True, False, Not, And, Or, Compare}
 use Rattle.carol_syntax.specs.Bodies.{BodyTree, Return, If}
-use Rattle.carol_syntax.specs.Size.{most_nodes, most_items, formula_size, node_count, statement_count, IsSizedTerm, IsSizedFormula, IsSizedBody}
+use Rattle.carol_syntax.specs.Limits.{most_formula_nodes}
+use Rattle.carol_syntax.specs.Size.{most_items, formula_size, node_count, statement_count, IsSizedTerm, IsSizedFormula, IsSizedBody}
 
 nodes_below_size : (f : FormulaTree) → node_count f ≤ formula_size f
 nodes_below_size True = omega arith
@@ -16,7 +17,7 @@ nodes_below_size (Or f g) = omega (arith, nodes_below_size f, nodes_below_size g
 nodes_below_size (Compare left sign right) = omega arith
 
 -- a formula has at most so many nodes without its products, too
-pub few_nodes : (f : FormulaTree) → IsSizedFormula f → node_count f ≤ most_nodes
+pub few_nodes : (f : FormulaTree) → IsSizedFormula f → node_count f ≤ most_formula_nodes
 few_nodes f h = omega (arith, nodes_below_size f)
 
 -- the parts of a formula are as small

@@ -1,5 +1,4 @@
--- How large a tree is, and which trees are as small as the limits of a text make them. The bytes that a program part may
--- have bound each of its lists.
+-- How large a tree is, and which trees are as small as the limits of a text make them.
 use Rattle.std.specs.Prelude.{ℕ, ◌+◌, ◌≤◌, max, List, [], ◌∷◌, length, IfSome}
 use Rattle.std.specs.List.{AllByRecursion}
 use Rattle.carol_syntax.specs.declared.formulas.TermDecl.{TermDecl}
@@ -10,24 +9,15 @@ use Rattle.carol_syntax.specs.declared.bodies.Change.TheVariants as change
 use Rattle.carol_syntax.specs.declared.bodies.AtomDecl.{AtomDecl}
 use Rattle.carol_syntax.specs.declared.bodies.Statement.{Statement}
 use Rattle.carol_syntax.specs.declared.bodies.Statement.TheVariants as statement
+use Rattle.carol_syntax.specs.Limits.{most_program_bytes, most_formula_nodes, most_body_depth, most_script_lines}
 use Rattle.carol_syntax.specs.Formulas.{FormulaTree, True, False, Not, And, Or, Compare}
 use Rattle.carol_syntax.specs.Bodies.{BodyTree, Return, If}
 use Rattle.carol_syntax.specs.Files.{NamedFormula, OpTree, ProgramTree, FileTree}
 
--- the most nodes of a formula, and the most products of a term
-abbrev pub most_nodes : ℕ
-most_nodes = 256
-
--- how many bodies may stand in one another
-abbrev pub most_deep : ℕ
-most_deep = 64
-
--- the most items of a list of the program part, and the most statements of an operation
+-- the most items of a list of the program part, and the most statements of an operation: each
+-- has a byte at least
 abbrev pub most_items : ℕ
-most_items = 65_536
-
-abbrev pub most_lines : ℕ
-most_lines = 131_072
+most_items = most_program_bytes
 
 -- How large.
 
@@ -70,10 +60,10 @@ cell_total (c ∷ cs) = cell_count c + cell_total cs
 -- What is small enough.
 
 abbrev pub IsSizedTerm : TermDecl → Type 0
-IsSizedTerm t = length t.products ≤ most_nodes
+IsSizedTerm t = length t.products ≤ most_formula_nodes
 
 abbrev pub IsSizedFormula : FormulaTree → Type 0
-IsSizedFormula f = formula_size f ≤ most_nodes
+IsSizedFormula f = formula_size f ≤ most_formula_nodes
 
 -- a list of the program part, and its items
 abbrev pub AreSized : {A : Type 0} → (A → Type 0) → List A → Type 0
@@ -103,7 +93,7 @@ HasSizedParts (If plain test first second) =
 -- the body of an operation
 pub record IsSizedBody (body : BodyTree) : Type 0 where
   pub parts : HasSizedParts body
-  pub shallow : body_depth body ≤ most_deep
+  pub shallow : body_depth body ≤ most_body_depth
   pub short : statement_count body ≤ most_items
 
 abbrev pub IsSizedNamed : NamedFormula → Type 0
@@ -124,4 +114,4 @@ pub record IsSizedProgram (program : ProgramTree) : Type 0 where
 -- The size of a file that is read.
 pub record IsSized (file : FileTree) : Type 0 where
   pub program : IsSizedProgram file.program
-  pub script : IfSome file.script (λ lines. length lines ≤ most_lines)
+  pub script : IfSome file.script (λ lines. length lines ≤ most_script_lines)

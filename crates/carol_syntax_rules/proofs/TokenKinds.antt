@@ -3,21 +3,22 @@ use Rattle.std.proofs.Common.{◌≡◌, ℕ, zero, suc, ◌<◌, ◌≤◌, Boo
 use Rattle.std.proofs.lemmas.Bool.{eqb-true}
 use denote.Enum.Bare.{same_true}
 use Rattle.carol_grammar.specs.Sets.{has}
+use Rattle.carol_syntax.specs.Limits.{largest}
 use Rattle.carol_syntax_tokens.specs.declared.kind.Kind.{Kind}
 use Rattle.carol_syntax_tokens.specs.declared.kind.Kind.TheVariants as k
 use Rattle.carol_syntax_tokens.specs.contracts.Kind.{the_type}
 use Rattle.carol_syntax_tokens.specs.declared.lexeme.Lexeme.{Lexeme}
-use Rattle.carol_syntax_rules.specs.Terminals.{number_of, class_of, numeral, greatest}
+use Rattle.carol_syntax_rules.specs.Terminals.{number_of, class_of, numeral, class_of_zero, class_of_more, class_of_none}
 
-below_numbers : (kind : Kind) → number_of kind < 100
+below_numbers : (kind : Kind) → number_of kind < class_of_zero
 unfolding number_of
 below_numbers k.Name = omega arith
 below_numbers _ = omega arith
 
-above_words : (n : ℕ) → 100 ≤ numeral n
+above_words : (n : ℕ) → class_of_zero ≤ numeral n
 above_words zero = omega arith
 above_words (suc zero) = omega arith
-above_words (suc (suc n)) = elim (nat_le (suc (suc n)) greatest) as (λ b. 100 ≤ cond b 102 103) [ true ↦ omega arith | false ↦ omega arith ]
+above_words (suc (suc n)) = elim (nat_le (suc (suc n)) largest) as (λ b. class_of_zero ≤ cond b class_of_more class_of_none) [ true ↦ omega arith | false ↦ omega arith ]
 
 or_false : (b : Bool) → (b || false) ≡ true → b ≡ true
 or_false true h = refl
