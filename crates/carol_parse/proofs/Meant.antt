@@ -1,18 +1,23 @@
 -- What was answered is what the text means.
-use Rattle.std.proofs.Common.{◌≡◌, ℕ, ◌+◌, List, length, take, Option, subst, sym}
+use Rattle.std.proofs.Common.{◌≡◌, ℕ, ◌+◌, ◌≤◌, List, length, take, Option, subst, sym}
 use Rattle.std.specs.Prelude.{Some, None, IfSome, IfOk, Result, Ok, Err}
 use Rattle.carol_grammar.specs.Reading.{Reading, reads_within, ended}
 use Rattle.carol_grammar.specs.Found.{Answers}
 use Rattle.carol_syntax.specs.declared.files.File.{File}
 use Rattle.carol_syntax.specs.Files.{FileTree, file_tree}
 use Rattle.carol_syntax.specs.Shape.{IsFile}
+use Rattle.carol_syntax.specs.Size.{IsSized}
 use Rattle.carol_syntax_tokens.specs.declared.lexeme.Lexeme.{Lexeme}
 use Rattle.carol_syntax_tokens.specs.declared.lexeme.Lexemes.{Lexemes}
-use Rattle.carol_syntax_tokens.specs.Cut.{StandBetween}
+use Rattle.carol_syntax_tokens.specs.declared.lexeme.Stop.{Stop}
+use Rattle.carol_syntax_tokens.specs.declared.place.Place.{Place}
+use Rattle.carol_syntax_tokens.specs.Place.{start}
+use Rattle.carol_syntax_tokens.specs.Cut.{Cut, StandBetween}
 use Rattle.carol_syntax_rules.specs.Rules.{carol, file, read_file}
 use Rattle.carol_syntax_meaning.specs.declared.reading.Reach.{Reach}
 use Rattle.carol_syntax_meaning.specs.Outcome.{Outcome, AreParts, IsText, Means, tail_of}
 use Rattle.carol_syntax_meaning.specs.Reach.{Reaches, told}
+use Rattle.carol_parse_size.specs.Law.{ReadIsSized}
 use Rattle.carol_parse.specs.declared.error.TextError.{TextError}
 use Rattle.carol_parse.specs.Answer.{said, Says, IsMeant, IsOnlyMeant}
 
@@ -45,3 +50,11 @@ module _ (told_means : ToldMeans) (reading_answers : ReadingAnswers) (bytes : Li
 pub is_shaped : ((bytes : List ℕ) (f : FileTree) → IsText bytes f → IsFile f) → (bytes : List ℕ) (result : Result File TextError) → IsMeant bytes result → IfOk result (λ file. IsFile (file_tree file))
 is_shaped shaped bytes (Ok file) m = shaped bytes (file_tree file) (m.0, m.1, m.2.text)
 is_shaped shaped bytes (Err e) m = tt
+
+-- and is as small as the limits make it, whose parts are those that the text was cut into
+pub is_sized : ReadIsSized → (bytes : List ℕ) (text : Lexemes) → ((list : List Lexeme) (stop : Stop) (end : Place) → Cut start bytes list stop end → (list ≡ text.list) × (stop ≡ text.stop) × (end ≡ text.end)) → StandBetween 0 text.list text.end.offset → text.end.offset ≤ length bytes → (result : Result File TextError) → IsMeant bytes result → IfOk result (λ file. IsSized (file_tree file))
+is_sized sized bytes text once between within (Ok file) m =
+    let same = once m.0.list m.0.stop m.0.end m.1 in
+    let stand : StandBetween 0 m.0.list m.0.end.offset = rw (same.0, same.2) between in
+    sized bytes m.0 (file_tree file) stand (rw same.2 within) m.2
+is_sized sized bytes text once between within (Err e) m = tt

@@ -3,6 +3,7 @@ ghost use Rattle.carol_grammar.specs.Reading.{Reading, ended};
 ghost use Rattle.carol_syntax.specs.Files.{FileTree, file_tree};
 ghost use Rattle.carol_syntax.specs.Limits.{most_text_bytes};
 ghost use Rattle.carol_syntax.specs.Shape.{IsFile};
+ghost use Rattle.carol_syntax.specs.Size.{IsSized};
 ghost use Rattle.carol_syntax_tokens.specs.declared.lexeme.Lexeme.{Lexeme};
 ghost use Rattle.carol_syntax_meaning.specs.Outcome.{tail_of, is_broken};
 ghost use Rattle.carol_syntax_meaning.specs.Reach.{told, bad_at, unless_large};
@@ -13,6 +14,7 @@ use crate::error::TextError;
 use crate::file::file;
 use crate::shape::text_is_shaped;
 use carol_parse_reader::{Halt, Read, Reader};
+use carol_parse_size::read_is_sized;
 use carol_syntax::{File, Span};
 use carol_syntax_meaning::{TextLimit, find_reach, one_outcome, told_means};
 use carol_syntax_rules::reading_answers;
@@ -89,6 +91,7 @@ pub fn parse(alloc: Global, bytes: &[u8]) -> Result<File, TextError>
     ensures means { IsMeant bytes.now result }
     ensures only { IsOnlyMeant bytes.now result }
     ensures shape { IfOk result (λ file. IsFile (file_tree file)) }
+    ensures size { IfOk result (λ file. IsSized (file_tree file)) }
 {
     let text = cut(alloc, bytes)?;
     let reach = find_reach(&text, bytes);
@@ -103,5 +106,6 @@ pub fn parse(alloc: Global, bytes: &[u8]) -> Result<File, TextError>
     told_means();
     one_outcome();
     text_is_shaped();
+    read_is_sized();
     tell(&text, reach.limit, file(&reader, tokens, tail(text.stop)))
 }

@@ -1,5 +1,5 @@
 use Rattle.std.proofs.Common.{take, ap, ◌∙◌}
-use Rattle.carol_parse.proofs.Meant.{is_meant, is_only, is_shaped}
+use Rattle.carol_parse.proofs.Meant.{is_meant, is_only, is_shaped, is_sized}
 use Rattle.carol_parse.proofs.text.parse.Goals as goal
 
 pub returns-clause-means : goal.returns-clause-means
@@ -12,3 +12,6 @@ returns-clause-only c =
 
 pub returns-clause-shape : goal.returns-clause-shape
 returns-clause-shape c = is_shaped c.text_is_shaped.ensures c.args.bytes.now c.tell.result (returns-clause-means c)
+
+pub returns-clause-size : goal.returns-clause-size
+returns-clause-size c = is_sized c.read_is_sized.ensures c.args.bytes.now c.in_ok-text.text c.in_ok-text.ensures.only c.in_ok-text.ensures.ordered c.in_ok-text.ensures.within c.tell.result (returns-clause-means c)
