@@ -144,9 +144,7 @@ scene_decides program scene =
 
 pub script_decides : (script : List ScriptLine) → Decides (is_plain_script script) (IsPlainScript script)
 unfolding is_plain_script
-script_decides script =
-    let all = Decides-and _ _ (Decides-leb (length script) 131_072) (all_decides (λ line. is_some (line_of line)) (λ line. IsSome (line_of line)) (λ line. some_decides (line_of line)) script) in
-    (λ e. let h = all.0 e in record { few = h.0; plain = h.1 }, λ p. all.1 (p.few, p.plain))
+script_decides script = all_decides (λ line. is_some (line_of line)) (λ line. IsSome (line_of line)) (λ line. some_decides (line_of line)) script
 
 -- All three.
 

@@ -4,7 +4,7 @@ use Rattle.carol_history.specs.Setup.{IsSetup}
 use Rattle.carol_syntax.specs.declared.scenes.SceneDecl.{SceneDecl}
 use Rattle.carol_syntax.specs.declared.scenes.ScriptLine.{ScriptLine}
 use Rattle.carol_syntax.specs.Files.{ProgramTree, FileTree}
-use Rattle.std.specs.Prelude.{Result, Ok, Err, IsErrAnd}
+use Rattle.std.specs.Prelude.{Option, IsSomeAnd, Result, Ok, Err, IsErrAnd}
 use Rattle.carol_plain.specs.declared.error.PlainError.{PlainError}
 use Rattle.carol_plain.specs.declared.error.PlainError.TheVariants.{NotPlain, NoMemory}
 use Rattle.carol_plain.specs.declared.input.PlainInput.{PlainInput}
@@ -60,9 +60,10 @@ pub start_for : (program : ProgramTree) (scene : SceneDecl) (script : List Scrip
 start_for program scene script input passes made =
     subst (λ i. IsSetup (setup_of i)) (sym made) (starts_plain program scene script ((plain_decides program scene script).0 passes))
 
-pub lines_for : (program : ProgramTree) (scene : SceneDecl) (script : List ScriptLine) (input : PlainInput) → are_plain program scene script ≡ true → input ≡ input_of program scene script → length input.script ≤ 131_072
-lines_for program scene script input passes made =
-    subst (λ i. length i.script ≤ 131_072) (sym made) (omega (arith, lines_few script, ((plain_decides program scene script).0 passes).script.few))
+pub lines_for : (program : ProgramTree) (scene : SceneDecl) (script : List ScriptLine) (found : Option (List ScriptLine)) (input : PlainInput) → found ≡ Some script → input ≡ input_of program scene script → IsSomeAnd found (λ lines. length input.script ≤ length lines)
+lines_for program scene script found input has made =
+    let few : length input.script ≤ length script = subst (λ i. length i.script ≤ length script) (sym made) (lines_few script) in
+    subst (λ o. IsSomeAnd o (λ lines. length input.script ≤ length lines)) (sym has) few
 
 pub cells_for : (program : ProgramTree) (scene : SceneDecl) (script : List ScriptLine) (input : PlainInput) → are_plain program scene script ≡ true → input ≡ input_of program scene script → length input.starts ≤ 16
 cells_for program scene script input passes made =

@@ -110,10 +110,9 @@ line_of (said.Go session) = Some (Go session)
 line_of (said.Gossip source target) = Some (Gossip source target)
 line_of _ = None
 
--- at most 131072 statements, none of them a cut or a join
-pub record IsPlainScript (script : List ScriptLine) : Type 0 where
-  pub few : length script ≤ 131_072
-  pub plain : All (λ line. IsSome (line_of line)) script
+-- none of the statements is a cut or a join
+abbrev pub IsPlainScript : List ScriptLine → Type 0
+IsPlainScript script = All (λ line. IsSome (line_of line)) script
 
 -- What the three parts stand for.
 

@@ -196,7 +196,7 @@ is_plain_scene program scene = has_sizes scene && has_plain_sessions program sce
 
 -- the script is in the plain form
 unfoldable pub is_plain_script : List ScriptLine → Bool
-is_plain_script script = nat_le (length script) 131_072 && list_all (λ line. is_some (line_of line)) script
+is_plain_script script = list_all (λ line. is_some (line_of line)) script
 
 -- the three parts of a file are
 unfoldable pub are_plain : ProgramTree → SceneDecl → List ScriptLine → Bool

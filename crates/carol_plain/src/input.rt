@@ -1,4 +1,4 @@
-ghost use Rattle.std.specs.Prelude.{◌≡◌, ◌↔◌, ◌≤◌, ⊤, Some, None, List, length, IsTrue, IfOk, MatchResult, OnErr, MatchOption};
+ghost use Rattle.std.specs.Prelude.{◌≡◌, ◌↔◌, ◌≤◌, ⊤, Some, None, List, length, IsTrue, IfOk, IsSomeAnd, MatchResult, OnErr, MatchOption};
 ghost use Rattle.carol_history.specs.Setup.{IsSetup};
 ghost use Rattle.carol_syntax.specs.declared.scenes.SceneDecl.{SceneDecl};
 ghost use Rattle.carol_syntax.specs.declared.scenes.ScriptLine.{ScriptLine};
@@ -33,7 +33,7 @@ pub struct PlainInput {
     pub gossipers: u32,
     /// At most 64 sessions, with at most 4,096 commands in all.
     pub sessions: PlainSessions,
-    /// At most 131,072 statements.
+    /// No more statements than the file's script has.
     pub script: PlainLines,
 }
 
@@ -88,9 +88,9 @@ pub fn plain_input(alloc: Global, file: &File) -> Result<PlainInput, PlainError>
     ensures none { (result ≡ Err NotPlain) ↔ ((input : PlainInput) → Stands (file_tree file.now) input → ⊥) }
     // A history can be made over what is found.
     ensures start { IfOk result (λ input. IsSetup (setup_of input)) }
-    // It has few enough counters, and its script few enough statements to be run.
+    // It has few enough counters to be run, and its script no more statements than the file's.
     ensures cells { IfOk result (λ input. length input.starts ≤ 16) }
-    ensures lines { IfOk result (λ input. length input.script ≤ 131_072) }
+    ensures lines { IfOk result (λ input. IsSomeAnd file.now.script (λ lines. length input.script ≤ length lines)) }
 {
     let Some((scene, script)) = parts(file) else {
         return Err(PlainError::NotPlain);

@@ -1,13 +1,10 @@
-ghost use Rattle.std.specs.Prelude.{◌≡◌, IfOk, is_some, filter_map};
-ghost use Rattle.std.specs.List.{list_all};
+ghost use Rattle.std.specs.Prelude.{◌≡◌, IfOk, filter_map};
 ghost use Rattle.carol_plain.specs.Plain.{line_of};
 ghost use Rattle.carol_plain.specs.Tests.{is_plain_script};
 
 use carol_history::{PlainLine, PlainLines};
 use carol_syntax::ScriptLine;
 use std::alloc::{AllocError, Global};
-
-const MOST_LINES: usize = 131_072;
 
 fn line_of(line: ScriptLine) -> Option<PlainLine>
     ensures { result ≡ line_of line }
@@ -19,18 +16,12 @@ fn line_of(line: ScriptLine) -> Option<PlainLine>
     }
 }
 
-fn are_plain_lines(script: &[ScriptLine]) -> bool
-    ensures { result ≡ list_all (λ line. is_some (line_of line)) script.now }
-{
-    script.iter().all(|line| line_of(*line).is_some())
-}
-
 /// Whether a script is in the plain form.
 #[tactic(auto, unfolding(crate::specs::Tests::is_plain_script))]
 pub fn is_plain_script(script: &[ScriptLine]) -> bool
     ensures { result ≡ is_plain_script script.now }
 {
-    script.len() <= MOST_LINES && are_plain_lines(script)
+    script.iter().all(|line| line_of(*line).is_some())
 }
 
 fn collected(alloc: Global, script: &[ScriptLine]) -> Result<Vec<PlainLine>, AllocError>

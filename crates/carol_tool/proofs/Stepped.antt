@@ -1,6 +1,6 @@
 -- That `step` says what it says, and nothing else.
-use Rattle.std.proofs.Common.{◌≡◌, ℕ, List, refl, sym, ◌∙◌, subst, inl, inr}
-use Rattle.std.specs.Prelude.{codes, Result, Ok, Err, IfOk}
+use Rattle.std.proofs.Common.{◌≡◌, ℕ, ◌≤◌, List, length, refl, sym, ◌∙◌, subst, inl, inr, arith}
+use Rattle.std.specs.Prelude.{codes, Option, Some, None, IfSome, IsSomeAnd, Result, Ok, Err, IfOk}
 use Rattle.std.specs.declared.alloc.AllocError.{AllocError}
 use Rattle.carol_syntax.specs.Files.{FileTree}
 use Rattle.carol_syntax_meaning.specs.declared.limit.TextLimit.{TextLimit}
@@ -62,3 +62,8 @@ large_means bytes e limit is m = subst (λ x. IsMeant bytes (Err x)) is m
 
 pub large_alone : (bytes : List ℕ) (e : TextError) (limit : TextLimit) → e ≡ error.TooLarge limit → IsOnlyMeant bytes (Err e) → (other : Outcome) → Means bytes other → other ≡ Large limit
 large_alone bytes e limit is m = subst (λ x. IsOnlyMeant bytes (Err x)) is m
+
+-- what is no longer than a list is within its bound
+pub within_list : {A : Type 0} (o : Option (List A)) (n m : ℕ) → IsSomeAnd o (λ xs. n ≤ length xs) → IfSome o (λ xs. length xs ≤ m) → n ≤ m
+within_list None n m h g = absurd h
+within_list (Some xs) n m h g = omega arith

@@ -1,4 +1,4 @@
-ghost use Rattle.std.specs.Prelude.{◌≡◌, ◌≤◌, ℕ, List, [], ◌∷◌, length, map, IfOk, IsTrue, ◌↔◌, codes};
+ghost use Rattle.std.specs.Prelude.{◌≡◌, ◌≤◌, ℕ, List, [], ◌∷◌, length, map, IfOk, IfSome, IsTrue, ◌↔◌, codes};
 ghost use Rattle.carol_store.specs.declared.shape.CellKind.TheVariants.{Counter};
 ghost use Rattle.carol_history.specs.Scripts.{scripted};
 ghost use Rattle.carol_history.specs.Setup.{IsSetup};
@@ -93,6 +93,7 @@ fn refusal(alloc: Global, text: &[u8]) -> Result<Said, AllocError>
 
 // Says what comes of a file.
 fn step_file(alloc: Global, file: &File) -> Result<Said, AllocError>
+    requires { IfSome file.now.script (λ lines. length lines ≤ 131_072) }
     ensures says { IfOk result (λ said. SaysOf (file_tree file.now) said.status said.text.items) }
     ensures only { IfOk result (λ said. (s : Status) (t : List ℕ) → SaysOf (file_tree file.now) s t → (s ≡ said.status) × (t ≡ said.text.items)) }
 {

@@ -42,4 +42,4 @@ returns-clause-cells c =
 
 pub returns-clause-lines : goal.returns-clause-lines
 returns-clause-lines c =
-    lines_for (program_tree c.args.file.now.program) c.in-Some.scene.now c.in-Some.script.now _ (sym c.are_plain.ensures ∙ c.if-not-are_plain.false) c.in_ok-input_of.ensures
+    lines_for (program_tree c.args.file.now.program) c.in-Some.scene.now c.in-Some.script.now _ _ c.in-Some.ensures.1 c.in_ok-input_of.ensures

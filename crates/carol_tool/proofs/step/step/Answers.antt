@@ -20,3 +20,6 @@ returns-in-Err-TooLarge-clause-says c = said_so (Large c.in-Err-TooLarge.limit) 
 
 pub returns-in-Err-TooLarge-clause-only : goal.returns-in-Err-TooLarge-clause-only
 returns-in-Err-TooLarge-clause-only c = said_only (Large c.in-Err-TooLarge.limit) c.args.bytes.now c.too_large.result (large_alone c.args.bytes.now c.in-Err-TooLarge.field-0 c.in-Err-TooLarge.limit c.in-Err-TooLarge.field-0-is c.in-Err-TooLarge.ensures.only) (large_only c.in-Err-TooLarge.limit c.too_large.result c.too_large.ensures)
+
+pub step_file-requires : goal.step_file-requires
+step_file-requires c = c.in-Ok.ensures.size.script
