@@ -1,4 +1,4 @@
-// The edge of the program: where bytes come from and where they go, with faults that are counted.
+//! The edge of the program: where bytes come from and where they go, with faults that are counted.
 #![tactic(auto)]
 
 mod ends;
