@@ -5,8 +5,6 @@ mod ends;
 mod memory;
 mod standard;
 mod steady;
-#[cfg(test)]
-mod tests;
 mod whole;
 
 pub use ends::{Failed, Gate, OpenGate, Sink, Source};

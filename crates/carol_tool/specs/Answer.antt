@@ -36,7 +36,7 @@ Means command bytes old new status.Usage text = ⊥
 Means command bytes old new status.WriteFault text = ⊥
 Means command bytes old new status.ReadFault text =
     (length bytes ≤ MOST_BYTES) × (text ≡ (stop_answer stop.ReadFault).1)
-        × Rose old.faults new.faults
+    × Rose old.faults new.faults
 Means command bytes old new status.NoMemory text =
     (length bytes ≤ MOST_BYTES) × (text ≡ (stop_answer stop.NoMemory).1)
 Means command bytes old new status.TooLong text =
@@ -61,12 +61,12 @@ Comes (Some command) bytes old new meant text = Done command bytes old new meant
 
 -- What a call with these words is to answer, from what the source tells before it and behind it.
 pub record Meant (words : List (List ℕ)) (old new : End) (meant : Status) (text : List ℕ) : Type 0
-    where
-  -- the bytes that the source gave
-  pub bytes : List ℕ
-  pub given : Consumes old.bytes new.bytes bytes
-  pub comes : Comes (command_of words) bytes old new meant text
-  pub counted : old.faults ≤ new.faults
+  where
+    -- the bytes that the source gave
+    pub bytes : List ℕ
+    pub given : Consumes old.bytes new.bytes bytes
+    pub comes : Comes (command_of words) bytes old new meant text
+    pub counted : old.faults ≤ new.faults
 
 -- The text was written, and its status is answered; or writing failed after a part of the text, and
 -- the sink counted that.

@@ -5,6 +5,7 @@ use Rattle.carol_history.specs.declared.script.ScriptCause.{ScriptCause}
 use Rattle.carol_history.specs.declared.script.ScriptCause.TheVariants as cause
 use Rattle.carol_outer.specs.declared.whole.ReadError.{ReadError}
 use Rattle.carol_outer.specs.declared.whole.ReadError.TheVariants as read
+use Rattle.carol_report.specs.Events.{line_feed}
 use Rattle.carol_syntax_meaning.specs.declared.limit.TextLimit.{TextLimit}
 use Rattle.carol_syntax_meaning.specs.declared.limit.TextLimit.TheVariants as limit
 use Rattle.carol_tool.specs.declared.command.Command.{Command}
@@ -22,10 +23,11 @@ Answer = Status × List ℕ
 
 -- what is answered where a command can't be done, whatever the input is
 abbrev pub stop_answer : Stop → Answer
-stop_answer stop.Usage = (status.Usage, codes "usage: carol check, step, run, audit or gen N\n")
-stop_answer stop.ReadFault = (status.ReadFault, codes "read fault\n")
-stop_answer stop.NoMemory = (status.NoMemory, codes "no memory\n")
-stop_answer stop.TooLong = (status.TooLong, codes "too long\n")
+stop_answer stop.Usage =
+    (status.Usage, codes "usage: carol check, step, run, audit or gen N" ++ line_feed)
+stop_answer stop.ReadFault = (status.ReadFault, codes "read fault" ++ line_feed)
+stop_answer stop.NoMemory = (status.NoMemory, codes "no memory" ++ line_feed)
+stop_answer stop.TooLong = (status.TooLong, codes "too long" ++ line_feed)
 
 -- what keeps a command from being done where its input wasn't read
 abbrev pub stop_of : ReadError → Stop
@@ -52,12 +54,12 @@ cause_name cause.NothingNew = codes "nothing new"
 -- the texts of one line
 abbrev pub line_text : Line → List ℕ
 line_text (line.BadText row column) =
-    codes "text " ++ (decimal row ++ (codes " " ++ (decimal column ++ codes "\n")))
-line_text (line.TooLarge limit) = codes "too large " ++ (limit_name limit ++ codes "\n")
-line_text (line.PartMissing command) = codes "parts " ++ (command_word command ++ codes "\n")
-line_text line.NotPlain = codes "plain form only\n"
+    codes "text " ++ (decimal row ++ (codes " " ++ (decimal column ++ line_feed)))
+line_text (line.TooLarge limit) = codes "too large " ++ (limit_name limit ++ line_feed)
+line_text (line.PartMissing command) = codes "parts " ++ (command_word command ++ line_feed)
+line_text line.NotPlain = codes "plain form only" ++ line_feed
 line_text (line.BadStatement bad) =
-    codes "script " ++ (decimal bad.number ++ (codes " " ++ (cause_name bad.cause ++ codes "\n")))
+    codes "script " ++ (decimal bad.number ++ (codes " " ++ (cause_name bad.cause ++ line_feed)))
 
 -- each with its status
 abbrev pub line_answer : Line → Answer

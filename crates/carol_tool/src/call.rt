@@ -28,12 +28,16 @@ pub fn plain<R: Threads + Sync, S: Source, K: Sink>(
     sink: &mut K,
 ) -> Status
     requires { texts words.now ≢ codes "run" ∷ [] }
-    ensures { Answered (texts words.now)
+    ensures answered { Answered (texts words.now)
         (end_of (S.left source.old) (S.faults source.old))
         (end_of (S.left source.new) (S.faults source.new))
         (end_of (K.taken sink.old) (K.faults sink.old))
         (end_of (K.taken sink.new) (K.faults sink.new))
         result }
+    ensures read_fault { result ≡ Status.ReadFault
+        → Rose (S.faults source.old) (S.faults source.new) }
+    ensures write_fault { result ≡ Status.WriteFault
+        → Rose (K.faults sink.old) (K.faults sink.new) }
 {
     match reply(alloc, words, source) {
         Ok(reply) => say(sink, reply.status, &reply.text),
@@ -52,12 +56,16 @@ pub fn carol<R: Threads + Wait + Sync, S: Source, K: Sink, G: Gate + Sync>(
     sink: &mut K,
     _gate: &G,
 ) -> Status
-    ensures { Answered (texts words.now)
+    ensures answered { Answered (texts words.now)
         (end_of (S.left source.old) (S.faults source.old))
         (end_of (S.left source.new) (S.faults source.new))
         (end_of (K.taken sink.old) (K.faults sink.old))
         (end_of (K.taken sink.new) (K.faults sink.new))
         result }
+    ensures read_fault { result ≡ Status.ReadFault
+        → Rose (S.faults source.old) (S.faults source.new) }
+    ensures write_fault { result ≡ Status.WriteFault
+        → Rose (K.faults sink.old) (K.faults sink.new) }
 {
     if is_word(words, b"run") {
         return say(sink, Stop::Usage.status(), Stop::Usage.text());

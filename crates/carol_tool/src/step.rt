@@ -11,7 +11,7 @@ use super::call::MOST_BYTES;
 use super::command::Command;
 use super::reply::{Line, Reply, one_line};
 use super::status::Status;
-use carol_house::{PlainHouse, Played, run_script};
+use carol_house::{MOST_EVENTS, PlainHouse, Played, run_script};
 use carol_parse::{TextError, parse};
 use carol_plain::{PlainError, PlainInput, plain_input};
 use carol_report::report;
@@ -63,7 +63,7 @@ fn counters(alloc: Global, starts: &[i64]) -> Result<Vec<CellKind>, AllocError>
 // Runs the input's script, and reports its history or its first statement that gives no event.
 fn play(alloc: Global, input: PlainInput) -> Result<Reply, AllocError>
     requires cells { length input.starts ≤ 16 }
-    requires lines { length input.script ≤ 131_072 }
+    requires lines { length input.script ≤ MOST_EVENTS }
     requires start { IsSetup (setup_of input) }
     ensures { let script = scripted (setup_of input) 1 input.script [] in
         IfOk result (λ reply. script_answer (setup_of input) script ≡ answer_of reply) }
