@@ -1,6 +1,6 @@
 -- What a call with a command comes to.
 use Rattle.std.proofs.Common.{◌≡◌, ◌≤◌, ◌<◌, ℕ, List, length, sym, ap, subst, inl, inr, arith}
-use Rattle.std.specs.Prelude.{Option, Some}
+use Rattle.std.specs.Prelude.{Some, None}
 use Rattle.std.specs.Io.KnownBytes.{Consumes, IsAtEnd}
 use Rattle.carol_history.specs.declared.script.BadLine.{BadLine}
 use Rattle.carol_history.specs.Scripts.{Scripted}
