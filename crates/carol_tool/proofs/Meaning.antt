@@ -2,7 +2,6 @@
 use Rattle.std.proofs.Common.{◌≡◌, ◌≤◌, ◌<◌, ℕ, List, length, sym, ap, subst, inl, inr, arith}
 use Rattle.std.specs.Prelude.{Some, None}
 use Rattle.std.specs.Io.KnownBytes.{Consumes, IsAtEnd}
-use Rattle.carol_history.specs.declared.script.BadLine.{BadLine}
 use Rattle.carol_history.specs.Scripts.{Scripted}
 use Rattle.carol_history.specs.Setup.{Setup}
 use Rattle.carol_syntax.specs.Files.{FileTree}

@@ -1,4 +1,4 @@
-use Rattle.std.proofs.Common.{◌≡◌, ◌<◌, length, ◌∙◌, rules}
+use Rattle.std.proofs.Common.{◌≡◌, ◌<◌, length, rules}
 use Rattle.std.specs.Prelude.{Some}
 use Rattle.carol_tool.specs.Reply.{answer_of}
 use Rattle.carol_tool.specs.Words.{texts, command_of}
