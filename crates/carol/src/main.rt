@@ -1,4 +1,5 @@
-// The program: the words of its command line, standard input and standard output, and the exit status.
+//! The program: the words of its command line, standard input and standard output, and the exit
+//! status.
 #![tactic(auto)]
 
 use carol_outer::{OpenGate, StdinSource, StdoutSink};

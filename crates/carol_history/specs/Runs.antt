@@ -7,7 +7,8 @@ use Rattle.carol_history.specs.Journal.{journal, is_held}
 use Rattle.carol_history.specs.Sessions.{next}
 
 -- one replica passes an entry on that it holds to another one that lacks it
-pub record MayDeliver (setup : Setup) (source target entry : ℕ) (past : List PlainEvent) : Type 0 where
+pub record MayDeliver (setup : Setup) (source target entry : ℕ)
+    (past : List PlainEvent) : Type 0 where
   pub from : source < setup.replicas
   pub to : target < setup.replicas
   pub apart : source ≢ target
@@ -16,7 +17,8 @@ pub record MayDeliver (setup : Setup) (source target entry : ℕ) (past : List P
 
 -- the event may come next: an issue or a return where it is what its session does next
 abbrev pub Legal : Setup → PlainEvent → List PlainEvent → Type 0
-Legal setup (Issue session entry cell amount) past = next setup session past ≡ Some (Issue session entry cell amount)
+Legal setup (Issue session entry cell amount) past =
+    next setup session past ≡ Some (Issue session entry cell amount)
 Legal setup (Return session value) past = next setup session past ≡ Some (Return session value)
 Legal setup (Deliver source target entry) past = MayDeliver setup source target entry past
 
@@ -32,8 +34,10 @@ least_from test k (suc n) = if test k then Some k else least_from test (k + 1) n
 
 -- the one replica holds the entry, and the other lacks it
 abbrev pub is_missing : Setup → ℕ → ℕ → List PlainEvent → ℕ → Bool
-is_missing setup source target past entry = is_held setup.sessions source entry past && not (is_held setup.sessions target entry past)
+is_missing setup source target past entry =
+    is_held setup.sessions source entry past && not (is_held setup.sessions target entry past)
 
 -- the lowest entry that the one replica holds and the other lacks
 abbrev pub lowest_missing : Setup → ℕ → ℕ → List PlainEvent → Option ℕ
-lowest_missing setup source target past = least_from (is_missing setup source target past) 0 (length (journal past))
+lowest_missing setup source target past =
+    least_from (is_missing setup source target past) 0 (length (journal past))

@@ -5,8 +5,8 @@ use Rattle.carol_history.specs.declared.event.PlainEvent.{PlainEvent}
 use Rattle.carol_history.specs.declared.event.PlainEvent.TheVariants.{Deliver}
 use Rattle.carol_history.specs.declared.script.PlainLine.{PlainLine}
 use Rattle.carol_history.specs.declared.script.PlainLine.TheVariants.{Go, Gossip}
-use Rattle.carol_history.specs.declared.script.Cause.{Cause}
-use Rattle.carol_history.specs.declared.script.Cause.TheVariants.{NoSuchSession, Finished, NoSuchPair, NothingNew}
+use Rattle.carol_history.specs.declared.script.ScriptCause.{ScriptCause}
+use Rattle.carol_history.specs.declared.script.ScriptCause.TheVariants.{NoSuchSession, Finished, NoSuchPair, NothingNew}
 use Rattle.carol_history.specs.declared.script.BadLine.{BadLine}
 use Rattle.carol_history.specs.Setup.{Setup}
 use Rattle.carol_history.specs.Sessions.{next}
@@ -14,14 +14,19 @@ use Rattle.carol_history.specs.Runs.{lowest_missing}
 
 -- the two replicas are there, and are not the same
 abbrev pub is_pair : Setup → ℕ → ℕ → Bool
-is_pair setup source target = nat_lt source setup.replicas && nat_lt target setup.replicas && not (source == target)
+is_pair setup source target = nat_lt source setup.replicas && nat_lt target setup.replicas
+    && not (source == target)
 
 -- the event that a statement gives, or why it gives none
-abbrev pub event_of : Setup → PlainLine → List PlainEvent → Result PlainEvent Cause
+abbrev pub event_of : Setup → PlainLine → List PlainEvent → Result PlainEvent ScriptCause
 event_of setup (Go session) past =
-    if nat_lt session (length setup.sessions) then ok_or (next setup session past) Finished else Err NoSuchSession
+    if nat_lt session (length setup.sessions) then ok_or (next setup session past) Finished
+    else Err NoSuchSession
 event_of setup (Gossip source target) past =
-    if is_pair setup source target then ok_or (option_map (Deliver source target) (lowest_missing setup source target past)) NothingNew else Err NoSuchPair
+    let entry = lowest_missing setup source target past
+    in if is_pair setup source target
+    then ok_or (option_map (Deliver source target) entry) NothingNew
+    else Err NoSuchPair
 
 -- what a script comes to: its history, and its first statement that gives no event, which ends it
 pub record Scripted : Type 0 where
@@ -34,5 +39,8 @@ scripted setup number [] past = record { history = past; bad = None }
 scripted setup number (line ∷ lines) past =
     elim (event_of setup line past) [
       | Ok event ↦ scripted setup (number + 1) lines (event ∷ past)
-      | Err cause ↦ record { history = past; bad = Some (record { number = number; cause = cause }) }
+      | Err cause ↦ record {
+        history = past;
+        bad = Some (record { number = number; cause = cause });
+      }
     ]

@@ -24,7 +24,8 @@ pub record IsSessionOf (setup : Setup) (session : PlainSession) : Type 0 where
   pub placed : session.replica < setup.replicas
   pub fit : All (λ command. IsAtomOf setup.shape (change_of command)) session.commands
 
--- the numbers are within their limits: 10^12 for a cell at the start, 8 replicas, 64 sessions, 4,096 commands in all
+-- the numbers are within their limits: 10^12 for a cell at the start, 8 replicas, 64 sessions,
+-- 4,096 commands in all
 pub record IsSetup (setup : Setup) : Type 0 where
   pub store : IsStore setup.shape setup.initial
   pub start : All (λ number. unsigned_abs number ≤ 1_000_000_000_000) setup.initial

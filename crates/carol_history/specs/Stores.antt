@@ -16,10 +16,14 @@ effect_of entry past = option_to_list (slice_get (journal past) entry)
 abbrev pub local : Setup → ℕ → List PlainEvent → List ℤ
 local setup replica [] = setup.initial
 local setup replica (Issue session entry cell amount ∷ past) =
-    if is_at setup.sessions session replica then apply setup.shape (record { cell = cell; value = amount } ∷ []) (local setup replica past) else local setup replica past
+    if is_at setup.sessions session replica
+    then apply setup.shape (record { cell = cell; value = amount } ∷ []) (local setup replica past)
+    else local setup replica past
 local setup replica (Return session value ∷ past) = local setup replica past
 local setup replica (Deliver source target entry ∷ past) =
-    if target == replica then apply setup.shape (effect_of entry past) (local setup replica past) else local setup replica past
+    if target == replica
+    then apply setup.shape (effect_of entry past) (local setup replica past)
+    else local setup replica past
 
 -- the global store: the initial one with the whole journal applied
 abbrev pub global : Setup → List PlainEvent → List ℤ
@@ -28,8 +32,11 @@ global setup past = apply setup.shape (journal past) setup.initial
 -- of these entries, numbered from k, those that are chosen
 abbrev pub chosen_from : (ℕ → Bool) → ℕ → List Atom → List Atom
 chosen_from chosen k [] = []
-chosen_from chosen k (atom ∷ atoms) = if chosen k then atom ∷ chosen_from chosen (k + 1) atoms else chosen_from chosen (k + 1) atoms
+chosen_from chosen k (atom ∷ atoms) =
+    if chosen k then atom ∷ chosen_from chosen (k + 1) atoms else chosen_from chosen (k + 1) atoms
 
 -- the initial store with the entries applied that the replica holds, in the journal's order
 abbrev pub held_store : Setup → ℕ → List PlainEvent → List ℤ
-held_store setup replica past = apply setup.shape (chosen_from (λ entry. is_held setup.sessions replica entry past) 0 (journal past)) setup.initial
+held_store setup replica past =
+    let held = chosen_from (λ entry. is_held setup.sessions replica entry past) 0 (journal past)
+    in apply setup.shape held setup.initial

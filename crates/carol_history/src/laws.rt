@@ -6,11 +6,15 @@ ghost use Rattle.carol_history.specs.Laws.{HeldAreEntries, OrdersAgree, Replicas
 
 use carol_store::effects_commute;
 
-/// What holds of all histories that can be made: in which order entries come to a replica makes no difference, replicas that hold the same entries are equal, and counters stay small. It does nothing, and is called for its clauses.
+/// What holds of all histories that can be made: in which order entries come to a replica makes no
+/// difference, replicas that hold the same entries are equal, and counters stay small. It does
+/// nothing, and is called for its clauses.
 pub fn history_laws()
     ensures orders { OrdersAgree }
-    ensures replicas { (setup : Setup) (past : List PlainEvent) → Run setup past → ReplicasAgree setup past }
-    ensures held { (setup : Setup) (past : List PlainEvent) → Run setup past → HeldAreEntries setup past }
+    ensures replicas { (setup : Setup) (past : List PlainEvent) → Run setup past
+        → ReplicasAgree setup past }
+    ensures held { (setup : Setup) (past : List PlainEvent) → Run setup past
+        → HeldAreEntries setup past }
     ensures small { StaysSmall }
 {
     effects_commute();

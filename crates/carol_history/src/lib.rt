@@ -1,4 +1,5 @@
-//! Histories of sessions that change counters at replicas: what they are made over, what they are made of, and what each makes of the stores.
+//! Histories of sessions that change counters at replicas: what they are made over, what they are
+//! made of, and what each makes of the stores.
 #![tactic(auto)]
 
 mod event;
@@ -8,5 +9,5 @@ mod session;
 
 pub use event::{MOST_EVENTS, PlainEvent};
 pub use laws::history_laws;
-pub use script::{BadLine, Cause, PlainLine, PlainLines};
+pub use script::{BadLine, PlainLine, PlainLines, ScriptCause};
 pub use session::{PlainCommand, PlainList, PlainSession, PlainSessions};

@@ -19,7 +19,7 @@ pub type PlainLines = Items<PlainLine>;
 
 /// Why a statement of a script gives no event.
 #[derive(Clone, Copy, Debug, PartialEq, Eq)]
-pub enum Cause {
+pub enum ScriptCause {
     /// There is no session with the number.
     NoSuchSession,
     /// All commands of the session are done.
@@ -36,5 +36,5 @@ pub struct BadLine {
     /// The statement's number, from 1.
     pub number: u64,
     /// Why it gives no event.
-    pub cause: Cause,
+    pub cause: ScriptCause,
 }

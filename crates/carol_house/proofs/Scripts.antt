@@ -4,7 +4,7 @@ use Rattle.std.specs.Prelude.{MatchResult}
 use Rattle.carol_history.specs.declared.event.PlainEvent.{PlainEvent}
 use Rattle.carol_history.specs.declared.event.TheConstants.{MOST_EVENTS}
 use Rattle.carol_history.specs.declared.script.PlainLine.{PlainLine}
-use Rattle.carol_history.specs.declared.script.Cause.{Cause}
+use Rattle.carol_history.specs.declared.script.ScriptCause.{ScriptCause}
 use Rattle.carol_history.specs.Scripts.{Scripted, event_of, scripted}
 use Rattle.carol_history.specs.Setup.{Setup}
 use Rattle.carol_house.specs.House.{House, with_event}
@@ -17,24 +17,24 @@ pub record Playing (first : House) (lines left : List PlainLine) (number : ℕ) 
   pub few : length now.history + length left ≤ MOST_EVENTS
 
 -- a script by its first statement
-scripted-cons : (setup : Setup) (number : ℕ) (line : PlainLine) (lines : List PlainLine) (past : List PlainEvent) (r : Result PlainEvent Cause) → event_of setup line past ≡ r → scripted setup number (line ∷ lines) past ≡ (elim r as (λ _. Scripted) [ Ok event ↦ scripted setup (number + 1) lines (event ∷ past) | Err cause ↦ record { history = past; bad = Some (record { number = number; cause = cause }) } ])
+scripted-cons : (setup : Setup) (number : ℕ) (line : PlainLine) (lines : List PlainLine) (past : List PlainEvent) (r : Result PlainEvent ScriptCause) → event_of setup line past ≡ r → scripted setup number (line ∷ lines) past ≡ (elim r as (λ _. Scripted) [ Ok event ↦ scripted setup (number + 1) lines (event ∷ past) | Err cause ↦ record { history = past; bad = Some (record { number = number; cause = cause }) } ])
 scripted-cons setup number line lines past r e =
-    ap (λ (x : Result PlainEvent Cause). elim x as (λ _. Scripted) [ Ok event ↦ scripted setup (number + 1) lines (event ∷ past) | Err cause ↦ record { history = past; bad = Some (record { number = number; cause = cause }) } ]) e
+    ap (λ (x : Result PlainEvent ScriptCause). elim x as (λ _. Scripted) [ Ok event ↦ scripted setup (number + 1) lines (event ∷ past) | Err cause ↦ record { history = past; bad = Some (record { number = number; cause = cause }) } ]) e
 
 -- the statement gave an event
-pub Playing-cons : (first : House) (lines : List PlainLine) (line : PlainLine) (left : List PlainLine) (number : ℕ) (now new : House) (bad : Option Cause) → bad ≡ None → Playing first lines (line ∷ left) number now → Makes now line bad new → Playing first lines left (number + 1) new
+pub Playing-cons : (first : House) (lines : List PlainLine) (line : PlainLine) (left : List PlainLine) (number : ℕ) (now new : House) (bad : Option ScriptCause) → bad ≡ None → Playing first lines (line ∷ left) number now → Makes now line bad new → Playing first lines left (number + 1) new
 Playing-cons first lines line left number now new bad none h makes = at (event_of now.setup line now.history) refl makes
   where
-    at : (r : Result PlainEvent Cause) → event_of now.setup line now.history ≡ r → MatchResult r (λ event. (bad ≡ None) × (new ≡ with_event now event)) (λ cause. (bad ≡ Some cause) × (new ≡ now)) → Playing first lines left (number + 1) new
+    at : (r : Result PlainEvent ScriptCause) → event_of now.setup line now.history ≡ r → MatchResult r (λ event. (bad ≡ None) × (new ≡ with_event now event)) (λ cause. (bad ≡ Some cause) × (new ≡ now)) → Playing first lines left (number + 1) new
     at (Ok event) e made =
         rw made.1 (record { ends = sym (scripted-cons now.setup number line left now.history (Ok event) e) ∙ h.ends; setup = h.setup; few = omega (arith, h.few) })
     at (Err cause) e made = absurd (let no : None ≡ Some cause = sym none ∙ made.0 in cc)
 
 -- the statement gave none
-pub Playing-bad : (first : House) (lines : List PlainLine) (line : PlainLine) (left : List PlainLine) (number : ℕ) (now new : House) (bad : Option Cause) (cause : Cause) → bad ≡ Some cause → Playing first lines (line ∷ left) number now → Makes now line bad new → Plays first lines new (Some (record { number = number; cause = cause }))
+pub Playing-bad : (first : House) (lines : List PlainLine) (line : PlainLine) (left : List PlainLine) (number : ℕ) (now new : House) (bad : Option ScriptCause) (cause : ScriptCause) → bad ≡ Some cause → Playing first lines (line ∷ left) number now → Makes now line bad new → Plays first lines new (Some (record { number = number; cause = cause }))
 Playing-bad first lines line left number now new bad cause is h makes = at (event_of now.setup line now.history) refl makes
   where
-    at : (r : Result PlainEvent Cause) → event_of now.setup line now.history ≡ r → MatchResult r (λ event. (bad ≡ None) × (new ≡ with_event now event)) (λ c. (bad ≡ Some c) × (new ≡ now)) → Plays first lines new (Some (record { number = number; cause = cause }))
+    at : (r : Result PlainEvent ScriptCause) → event_of now.setup line now.history ≡ r → MatchResult r (λ event. (bad ≡ None) × (new ≡ with_event now event)) (λ c. (bad ≡ Some c) × (new ≡ now)) → Plays first lines new (Some (record { number = number; cause = cause }))
     at (Ok event) e made = absurd (let no : Some cause ≡ None = sym is ∙ made.0 in cc)
     at (Err c) e made =
         let some : Some cause ≡ Some c = sym is ∙ made.0
@@ -51,7 +51,7 @@ Playing-end first lines number now h = rw (← h.ends, ← h.setup) (refl, refl)
 pub next_line : (first : House) (lines : List PlainLine) (place : ℕ) (blank : PlainLine) (now : House) → place < length lines → Playing first lines (drop place lines) (place + 1) now → Playing first lines (get_or lines place blank ∷ drop (suc place) lines) (place + 1) now
 next_line first lines place blank now inside h = rw (drop-cons lines place blank inside) at h
 
-pub Playing-next : (first : House) (lines : List PlainLine) (place : ℕ) (blank : PlainLine) (now new : House) (bad : Option Cause) → place < length lines → bad ≡ None → Playing first lines (drop place lines) (place + 1) now → Makes now (get_or lines place blank) bad new → Playing first lines (drop (place + 1) lines) (place + 1 + 1) new
+pub Playing-next : (first : House) (lines : List PlainLine) (place : ℕ) (blank : PlainLine) (now new : House) (bad : Option ScriptCause) → place < length lines → bad ≡ None → Playing first lines (drop place lines) (place + 1) now → Makes now (get_or lines place blank) bad new → Playing first lines (drop (place + 1) lines) (place + 1 + 1) new
 Playing-next first lines place blank now new bad inside none h makes =
     let P : ℕ → Type 0 = λ n. Playing first lines (drop n lines) (place + 1 + 1) new
     in subst P (sym (add-one place))

@@ -6,7 +6,8 @@ use Rattle.carol_house.specs.declared.tables.Entry.{Entry}
 
 -- the one replica holds the entry, and the other lacks it
 abbrev pub is_lent : ℕ → ℕ → Entry → Bool
-is_lent source target entry = slice_index_or entry.holders source false && not (slice_index_or entry.holders target false)
+is_lent source target entry = slice_index_or entry.holders source false
+    && not (slice_index_or entry.holders target false)
 
 -- the entry counts for the store of this replica; each one does for the global store
 abbrev pub is_taken : Option ℕ → Entry → Bool

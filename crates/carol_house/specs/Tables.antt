@@ -13,21 +13,29 @@ use Rattle.carol_house.specs.House.{House}
 
 -- what the table says of who holds an entry
 abbrev pub flag_at : List Entry → ℕ → ℕ → Bool
-flag_at entries replica entry = option_map_or (λ e. slice_index_or e.holders replica false) (slice_get entries entry) false
+flag_at entries replica entry = option_map_or (λ e. slice_index_or e.holders replica false)
+    (slice_get entries entry) false
 
 -- how far the session is
 abbrev pub progress_of : ℕ → List PlainEvent → Progress
-progress_of session past = record { done = length (results session past); issued = has_issued session past }
+progress_of session past = record {
+  done = length (results session past);
+  issued = has_issued session past;
+}
 
 -- the tables say what the history says
-pub record AreTables (setup : Setup) (past : List PlainEvent) (entries : List Entry) (progress : List Progress) : Type 0 where
+pub record AreTables (setup : Setup) (past : List PlainEvent) (entries : List Entry)
+    (progress : List Progress) : Type 0 where
   pub atoms : map (λ e. e.atom) entries ≡ journal past
   pub wide : All (λ e. length e.holders ≡ 8) entries
-  pub holders : (replica entry : ℕ) → replica < 8 → flag_at entries replica entry ≡ is_held setup.sessions replica entry past
+  pub holders : (replica entry : ℕ) → replica < 8
+      → flag_at entries replica entry ≡ is_held setup.sessions replica entry past
   pub sessions : length progress ≡ length setup.sessions
-  pub each : (session : ℕ) → session < length setup.sessions → slice_get progress session ≡ Some (progress_of session past)
+  pub each : (session : ℕ) → session < length setup.sessions
+      → slice_get progress session ≡ Some (progress_of session past)
 
--- the history is one that can be made over what the house was given, and the tables say what it says
+-- the history is one that can be made over what the house was given, and the tables say what it
+-- says
 pub record IsKept (house : House) (entries : List Entry) (progress : List Progress) : Type 0 where
   pub setup : IsSetup house.setup
   pub run : Run house.setup house.history

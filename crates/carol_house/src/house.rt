@@ -1,9 +1,8 @@
 ghost use Rattle.std.specs.Prelude.{◌≡◌, ◌≢◌, ℕ, ◌<◌, ◌≤◌, length, reverse, drop, [], Some, IfOk, OnOk, OnErr, All};
-ghost use Rattle.carol_history.specs.declared.event.PlainEvent.TheVariants.{Issue, Return, Deliver};
-ghost use Rattle.carol_history.specs.Journal.{journal};
+ghost use Rattle.carol_history.specs.declared.event.PlainEvent.TheVariants.{Return, Deliver};
 ghost use Rattle.carol_history.specs.Laws.{ReplicasAgree, IsSmall};
 ghost use Rattle.carol_history.specs.Runs.{Run, MayDeliver};
-ghost use Rattle.carol_history.specs.Sessions.{next};
+ghost use Rattle.carol_history.specs.Sessions.{issue_of, next};
 ghost use Rattle.carol_history.specs.Setup.{IsSetup};
 ghost use Rattle.carol_history.specs.Stores.{local, global};
 
@@ -18,7 +17,8 @@ use carol_store::{Shape, Store};
 use std::alloc::{AllocError, Global};
 use std::marker::Model;
 
-/// Sessions on counters at replicas, with their history so far. Contracts see it as what it was made over and the history, the latest event first.
+/// Sessions on counters at replicas, with their history so far. Contracts see it as what it was
+/// made over and the history, the latest event first.
 #[derive(Drop)]
 pub struct PlainHouse {
     shape: Shape,
@@ -38,14 +38,18 @@ impl Model for PlainHouse {
 
     ghost view = { λ h. house_of h.shape h.initial h.replicas h.sessions h.events.items };
 
-    ghost invariant = { λ h. IsKept (house_of h.shape h.initial h.replicas h.sessions h.events.items) h.entries.items h.progress.items };
+    ghost invariant = { λ h. IsKept (house_of h.shape h.initial h.replicas h.sessions
+        h.events.items) h.entries.items h.progress.items };
 }
 
 impl PlainHouse {
-    ghost use Rattle.carol_house.specs.House.{house_of, with_event};
+    ghost use Rattle.carol_house.specs.House.{house_of, setup_over, with_event};
     ghost use Rattle.carol_house.specs.Moves.{Advances, Gossips};
 
-    /// A house with an empty history. There are 1 to 8 replicas, at most 64 sessions with at most 4,096 commands in all, each session stands at a replica that is there, each command's cell is in the shape with an amount of at most 10^9, and each cell at the start is at most 10^12, in absolute value.
+    /// A house with an empty history. There are 1 to 8 replicas, at most 64 sessions with at most
+    /// 4,096 commands in all, each session stands at a replica that is there, each command's cell
+    /// is in the shape with an amount of at most 10^9, and each cell at the start is at most 10^12,
+    /// in absolute value.
     pub fn new(
         alloc: Global,
         shape: Shape,
@@ -53,7 +57,7 @@ impl PlainHouse {
         replicas: u32,
         sessions: PlainSessions,
     ) -> Result<PlainHouse, AllocError>
-        requires { IsSetup (record { shape = shape; initial = initial; replicas = replicas; sessions = sessions }) }
+        requires { IsSetup (setup_over shape initial replicas sessions) }
         ensures { IfOk result (λ house. house ≡ house_of shape initial replicas sessions []) }
     {
         let start = Progress {
@@ -72,7 +76,9 @@ impl PlainHouse {
         })
     }
 
-    /// The session, which is in range, takes its next step: it issues its present command, or returns from it. `Finished` is answered exactly where all its commands are done. The history has fewer than 131,072 events; where there is no memory nothing changes.
+    /// The session, which is in range, takes its next step: it issues its present command, or
+    /// returns from it. `Finished` is answered exactly where all its commands are done. The history
+    /// has fewer than 131,072 events; where there is no memory nothing changes.
     pub fn advance(&mut self, session: u32) -> Result<Moved, AllocError>
         requires session { session < length self.old.setup.sessions }
         requires few { length self.old.history < MOST_EVENTS }
@@ -94,10 +100,12 @@ impl PlainHouse {
 
     // The session issues its present command.
     fn issue(&mut self, session: u32, command: PlainCommand) -> Result<(), AllocError>
-        requires next { next self.old.setup session self.old.history ≡ Some (Issue session (length (journal self.old.history)) command.cell command.amount) }
+        requires next { next self.old.setup session self.old.history
+            ≡ Some (issue_of session self.old.history command) }
         requires session { session < length self.old.setup.sessions }
         requires few { length self.old.history < MOST_EVENTS }
-        ensures ok { OnOk result (self.new ≡ with_event self.old (Issue session (length (journal self.old.history)) command.cell command.amount)) }
+        ensures ok { OnOk result (self.new
+            ≡ with_event self.old (issue_of session self.old.history command)) }
         ensures err { OnErr result (self.new ≡ self.old) }
     {
         history_laws();
@@ -115,7 +123,8 @@ impl PlainHouse {
 
     // The session returns from its present command.
     fn finish(&mut self, session: u32, command: PlainCommand) -> Result<(), AllocError>
-        requires next { next self.old.setup session self.old.history ≡ Some (Return session command.amount) }
+        requires next { next self.old.setup session self.old.history
+            ≡ Some (Return session command.amount) }
         requires session { session < length self.old.setup.sessions }
         requires few { length self.old.history < MOST_EVENTS }
         ensures ok { OnOk result (self.new ≡ with_event self.old (Return session command.amount)) }
@@ -132,7 +141,9 @@ impl PlainHouse {
         Ok(())
     }
 
-    /// Delivers the lowest entry that `from` holds and `to` lacks. `NothingNew` is answered exactly where there is none. Both are replicas of the house, and not the same. The history has fewer than 131,072 events; where there is no memory nothing changes.
+    /// Delivers the lowest entry that `from` holds and `to` lacks. `NothingNew` is answered exactly
+    /// where there is none. Both are replicas of the house, and not the same. The history has fewer
+    /// than 131,072 events; where there is no memory nothing changes.
     pub fn gossip(&mut self, from: u32, to: u32) -> Result<Gossip, AllocError>
         requires from { from < self.old.setup.replicas }
         requires to { to < self.old.setup.replicas }
@@ -170,14 +181,18 @@ impl PlainHouse {
         Ok(())
     }
 
-    /// The events so far, in order, at most 131,072. They are a history that the sessions and replicas can make: at each time, replicas that hold the same entries have equal stores, and one that holds all entries has the global store. A cell is at most 131,072 * 10^9 + 10^12 in absolute value.
+    /// The events so far, in order, at most 131,072. They are a history that the sessions and
+    /// replicas can make: at each time, replicas that hold the same entries have equal stores, and
+    /// one that holds all entries has the global store. A cell is at most 131,072 * 10^9 + 10^12 in
+    /// absolute value.
     pub fn history(&self) -> &[PlainEvent]
         ensures events { result.now ≡ reverse self.now.history }
         ensures setup { IsSetup self.now.setup }
         ensures run { Run self.now.setup self.now.history }
         ensures few { length self.now.history ≤ MOST_EVENTS }
         ensures agree { (count : ℕ) → ReplicasAgree self.now.setup (drop count self.now.history) }
-        ensures small { (replica : ℕ) → All IsSmall (local self.now.setup replica self.now.history) }
+        ensures small { (replica : ℕ)
+            → All IsSmall (local self.now.setup replica self.now.history) }
         ensures global { All IsSmall (global self.now.setup self.now.history) }
     {
         history_laws();

@@ -7,8 +7,8 @@ mod script;
 mod tables;
 
 pub use carol_history::{
-    BadLine, Cause, MOST_EVENTS, PlainCommand, PlainEvent, PlainLine, PlainLines, PlainList,
-    PlainSession, PlainSessions,
+    BadLine, MOST_EVENTS, PlainCommand, PlainEvent, PlainLine, PlainLines, PlainList, PlainSession,
+    PlainSessions, ScriptCause,
 };
 pub use house::PlainHouse;
 pub use moved::{Gossip, Moved};

@@ -4,10 +4,11 @@ ghost use Rattle.carol_house.specs.Moves.{Makes, Plays, cause_of_rest, cause_of_
 
 use crate::house::PlainHouse;
 use crate::moved::{Gossip, Moved};
-use carol_history::{BadLine, Cause, MOST_EVENTS, PlainLine, PlainLines};
+use carol_history::{BadLine, MOST_EVENTS, PlainLine, PlainLines, ScriptCause};
 use std::alloc::AllocError;
 
-/// What a script comes to: the house with its events, and the first statement that gave none, which ended it.
+/// What a script comes to: the house with its events, and the first statement that gave none, which
+/// ended it.
 #[derive(Drop)]
 pub struct Played {
     /// The house with the events of the statements up to there.
@@ -16,7 +17,10 @@ pub struct Played {
     pub bad: Option<BadLine>,
 }
 
-/// Runs the script's statements in order, up to the first that gives no event: of `Go`, where there is no such session, or all its commands are done; of `Gossip`, where there is no such pair of replicas, or the one holds nothing that the other lacks. The history and the statements are at most 131,072 together.
+/// Runs the script's statements in order, up to the first that gives no event: of `Go`, where there
+/// is no such session, or all its commands are done; of `Gossip`, where there is no such pair of
+/// replicas, or the one holds nothing that the other lacks. The history and the statements are at
+/// most 131,072 together.
 pub fn run_script(house: PlainHouse, lines: &PlainLines) -> Result<Played, AllocError>
     requires { length house.history + length lines.now ≤ MOST_EVENTS }
     ensures { IfOk result (λ played. Plays house lines.now played.house played.bad) }
@@ -33,7 +37,7 @@ pub fn run_script(house: PlainHouse, lines: &PlainLines) -> Result<Played, Alloc
 }
 
 // Runs one statement, and answers why it gave no event where it gave none.
-fn run_line(house: &mut PlainHouse, line: PlainLine) -> Result<Option<Cause>, AllocError>
+fn run_line(house: &mut PlainHouse, line: PlainLine) -> Result<Option<ScriptCause>, AllocError>
     requires { length house.old.history < MOST_EVENTS }
     ensures ok { IfOk result (λ bad. Makes house.old line bad house.new) }
     ensures err { OnErr result (house.new ≡ house.old) }
@@ -45,48 +49,53 @@ fn run_line(house: &mut PlainHouse, line: PlainLine) -> Result<Option<Cause>, Al
 }
 
 // Advances a session.
-fn go(house: &mut PlainHouse, session: u64) -> Result<Option<Cause>, AllocError>
+fn go(house: &mut PlainHouse, session: u64) -> Result<Option<ScriptCause>, AllocError>
     requires { length house.old.history < MOST_EVENTS }
     ensures ok { IfOk result (λ bad. Makes house.old (statement.Go session) bad house.new) }
     ensures err { OnErr result (house.new ≡ house.old) }
 {
     if session >= house.sessions().len() as u64 {
-        return Ok(Some(Cause::NoSuchSession));
+        return Ok(Some(ScriptCause::NoSuchSession));
     }
     let moved = house.advance(session as u32)?;
     Ok(cause_of_rest(moved))
 }
 
 // Passes an entry on.
-fn pass_on(house: &mut PlainHouse, source: u64, target: u64) -> Result<Option<Cause>, AllocError>
+fn pass_on(
+    house: &mut PlainHouse,
+    source: u64,
+    target: u64,
+) -> Result<Option<ScriptCause>, AllocError>
     requires { length house.old.history < MOST_EVENTS }
-    ensures ok { IfOk result (λ bad. Makes house.old (statement.Gossip source target) bad house.new) }
+    ensures ok { IfOk result (λ bad. Makes house.old
+        (statement.Gossip source target) bad house.new) }
     ensures err { OnErr result (house.new ≡ house.old) }
 {
     let replicas = u64::from(house.replicas());
     if source >= replicas || target >= replicas || source == target {
-        return Ok(Some(Cause::NoSuchPair));
+        return Ok(Some(ScriptCause::NoSuchPair));
     }
     let gossip = house.gossip(source as u32, target as u32)?;
     Ok(cause_of_silence(gossip))
 }
 
 // Why a session made no step, if it made none.
-fn cause_of_rest(moved: Moved) -> Option<Cause>
+fn cause_of_rest(moved: Moved) -> Option<ScriptCause>
     ensures { result ≡ cause_of_rest moved }
 {
     match moved {
         Moved::Entered(_) => None,
-        Moved::Finished => Some(Cause::Finished),
+        Moved::Finished => Some(ScriptCause::Finished),
     }
 }
 
 // Why nothing was delivered, if nothing was.
-fn cause_of_silence(gossip: Gossip) -> Option<Cause>
+fn cause_of_silence(gossip: Gossip) -> Option<ScriptCause>
     ensures { result ≡ cause_of_silence gossip }
 {
     match gossip {
         Gossip::Delivered(_) => None,
-        Gossip::NothingNew | Gossip::CutOff => Some(Cause::NothingNew),
+        Gossip::NothingNew | Gossip::CutOff => Some(ScriptCause::NothingNew),
     }
 }

@@ -31,7 +31,8 @@ pub struct Progress {
 /// The session's command after this many, if there is one.
 pub fn command_at(sessions: &[PlainSession], session: usize, done: u32) -> Option<PlainCommand>
     requires { session < length sessions.now }
-    ensures { result ≡ option_and_then (λ s. slice_get s.commands done) (slice_get sessions.now session) }
+    ensures { result ≡ option_and_then (λ s. slice_get s.commands done)
+        (slice_get sessions.now session) }
 {
     let session = &sessions[session];
     session.commands.as_slice().get(done as usize).copied()
@@ -87,7 +88,8 @@ pub fn lowest_missing(entries: &[Entry], source: usize, target: usize) -> Option
         .position(|e| e.holders[source] && !e.holders[target])
 }
 
-/// The first store with the entries applied that the replica holds; with all of them where there is none given.
+/// The first store with the entries applied that the replica holds; with all of them where there is
+/// none given.
 pub fn replayed(shape: &Shape, first: &Store, entries: &Vec<Entry>, place: Option<usize>) -> Store
     requires place { ForSome place (λ replica. replica < MOST_REPLICAS) }
     requires store { IsStore shape.now first.now }

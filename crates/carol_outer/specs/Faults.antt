@@ -1,7 +1,8 @@
 -- A count of faults, and what a failure says of it.
 use Rattle.std.specs.Prelude.{ℕ, ◌≢◌, ◌<◌, ◌-◌, ◌^◌, min, ◌+◌}
 
--- the count is higher than before; where it stands at the last value of a 64-bit counter nothing is said
+-- the count is higher than before; where it stands at the last value of a 64-bit counter nothing is
+-- said
 abbrev pub Rose : ℕ → ℕ → Type 0
 Rose old new = new ≢ 2 ^ 64 - 1 → old < new
 

@@ -47,9 +47,11 @@ pub record Shelf : Type 0 where
   -- how many calls failed
   pub failures : ℕ
 
--- the next call, on this piece, fails: it is listed, or there is no room left for a piece with bytes
+-- the next call, on this piece, fails: it is listed, or there is no room left for a piece with
+-- bytes
 abbrev pub refuses_next : Shelf → List ℕ → Bool
-refuses_next s piece = list_any (λ n. n == s.call) s.listed || (nat_lt 0 (length piece) && (length s.held == s.room))
+refuses_next s piece = list_any (λ n. n == s.call) s.listed
+    || (nat_lt 0 (length piece) && (length s.held == s.room))
 
 -- how many bytes of a piece the next call takes, where it does not fail
 abbrev pub takes_next : Shelf → List ℕ → ℕ

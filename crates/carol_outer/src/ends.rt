@@ -37,7 +37,8 @@ pub trait Sink {
         ensures bound { IfOk result (λ n. n ≤ length from.now) }
         ensures takes { WriteAppends (taken self.old) (taken self.new) result from.now }
         ensures failed { OnErr result (Rose (faults self.old) (faults self.new)) }
-        ensures stuck { IfOk result (λ n. n ≡ 0 → 0 < length from.now → Rose (faults self.old) (faults self.new)) }
+        ensures stuck { IfOk result (λ n. n ≡ 0 → 0 < length from.now
+            → Rose (faults self.old) (faults self.new)) }
         ensures counted { faults self.old ≤ faults self.new };
 }
 

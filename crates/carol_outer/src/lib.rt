@@ -1,12 +1,10 @@
-// The edge of the program: where bytes come from and where they go, with faults that are counted.
+//! The edge of the program: where bytes come from and where they go, with faults that are counted.
 #![tactic(auto)]
 
 mod ends;
 mod memory;
 mod standard;
 mod steady;
-#[cfg(test)]
-mod tests;
 mod whole;
 
 pub use ends::{Failed, Gate, OpenGate, Sink, Source};

@@ -21,7 +21,13 @@ pub struct MemorySource {
 impl Model for MemorySource {
     ghost Value = { Feed };
 
-    ghost view = { λ s. record { rest = drop s.at s.bytes.items; most = s.piece; listed = s.failing.items; call = s.calls; failures = s.faults } };
+    ghost view = { λ s. record {
+      rest = drop s.at s.bytes.items;
+      most = s.piece;
+      listed = s.failing.items;
+      call = s.calls;
+      failures = s.faults;
+    } };
 
     ghost invariant = { λ s. (s.at ≤ length s.bytes.items) × (0 < s.piece) };
 }
@@ -31,7 +37,13 @@ impl MemorySource {
     /// stand in `failing` fail. A call after the last number of a `u64` counts as that number.
     pub fn new(bytes: Vec<u8>, piece: usize, failing: Vec<u64>) -> MemorySource
         requires { 0 < piece }
-        ensures { result ≡ record { rest = bytes.items; most = piece; listed = failing.items; call = 0; failures = 0 } }
+        ensures { result ≡ record {
+          rest = bytes.items;
+          most = piece;
+          listed = failing.items;
+          call = 0;
+          failures = 0;
+        } }
     {
         MemorySource {
             bytes,
@@ -83,7 +95,8 @@ pub(crate) fn copy_front(into: &mut [u8], from: &[u8]) -> usize
     count
 }
 
-/// A sink over memory that takes a piece at a time as long as it has room, and whose listed calls fail.
+/// A sink over memory that takes a piece at a time as long as it has room, and whose listed calls
+/// fail.
 #[derive(Drop)]
 pub struct MemorySink {
     held: Vec<u8>,
@@ -97,9 +110,17 @@ pub struct MemorySink {
 impl Model for MemorySink {
     ghost Value = { Shelf };
 
-    ghost view = { λ s. record { held = s.held.items; room = s.room; most = s.piece; listed = s.failing.items; call = s.calls; failures = s.faults } };
+    ghost view = { λ s. record {
+      held = s.held.items;
+      room = s.room;
+      most = s.piece;
+      listed = s.failing.items;
+      call = s.calls;
+      failures = s.faults;
+    } };
 
-    ghost invariant = { λ s. (vec_len s.held ≤ s.room) × (s.room ≤ vec_capacity s.held) × (0 < s.piece) };
+    ghost invariant = { λ s. (vec_len s.held ≤ s.room) × (s.room ≤ vec_capacity s.held)
+        × (0 < s.piece) };
 }
 
 impl MemorySink {
@@ -113,7 +134,14 @@ impl MemorySink {
         failing: Vec<u64>,
     ) -> Result<MemorySink, AllocError>
         requires { 0 < piece }
-        ensures { IfOk result (λ s. s ≡ record { held = []; room = room; most = piece; listed = failing.items; call = 0; failures = 0 }) }
+        ensures { IfOk result (λ s. s ≡ record {
+          held = [];
+          room = room;
+          most = piece;
+          listed = failing.items;
+          call = 0;
+          failures = 0;
+        }) }
     {
         Ok(MemorySink {
             held: Vec::with_capacity(alloc, room)?,
@@ -146,7 +174,8 @@ impl Sink for MemorySink {
         ensures bound { IfOk result (λ n. n ≤ length from.now) }
         ensures takes { WriteAppends (Some self.old.held) (Some self.new.held) result from.now }
         ensures failed { OnErr result (Rose self.old.failures self.new.failures) }
-        ensures stuck { IfOk result (λ n. n ≡ 0 → 0 < length from.now → Rose self.old.failures self.new.failures) }
+        ensures stuck { IfOk result (λ n. n ≡ 0 → 0 < length from.now
+            → Rose self.old.failures self.new.failures) }
         ensures counted { self.old.failures ≤ self.new.failures }
     {
         let call = self.calls;

@@ -6,7 +6,8 @@ use super::ends::{Failed, Sink, Source};
 use super::memory::copy_front;
 use std::marker::Model;
 
-/// A source over memory that gives all that fits and never fails. It is seen as the bytes that are left.
+/// A source over memory that gives all that fits and never fails. It is seen as the bytes that are
+/// left.
 #[derive(Drop)]
 pub struct SteadySource {
     bytes: Vec<u8>,

@@ -16,17 +16,20 @@ outcome_text None = codes " open" ++ line_feed
 
 -- the line of a command, by the numbers of its session and of the command
 unfoldable pub result_text : ℕ → ℕ → Option ℤ → List ℕ
-result_text session command outcome = codes "result " ++ (decimal session ++ (codes " " ++ (decimal command ++ outcome_text outcome)))
+result_text session command outcome = codes "result "
+    ++ (decimal session ++ (codes " " ++ (decimal command ++ outcome_text outcome)))
 
 -- the lines of a session's commands from number k on, given the results of all those that are done
 abbrev pub commands_text : ℕ → ℕ → List PlainCommand → List ℤ → List ℕ
 commands_text session k [] values = []
-commands_text session k (command ∷ commands) values = result_text session k (slice_get values k) ++ commands_text session (k + 1) commands values
+commands_text session k (command ∷ commands) values = result_text session k (slice_get values k)
+    ++ commands_text session (k + 1) commands values
 
 -- the lines of the commands of these sessions, numbered from s
 abbrev pub sessions_text : ℕ → List PlainSession → List PlainEvent → List ℕ
 sessions_text s [] past = []
-sessions_text s (session ∷ sessions) past = commands_text s 0 session.commands (results s past) ++ sessions_text (s + 1) sessions past
+sessions_text s (session ∷ sessions) past = commands_text s 0 session.commands (results s past)
+    ++ sessions_text (s + 1) sessions past
 
 -- the numbers of a store, one space before each
 abbrev pub values_text : List ℤ → List ℕ
@@ -42,9 +45,11 @@ global_text store = codes "global" ++ (values_text store ++ line_feed)
 -- the lines of the stores of n replicas from number r on
 abbrev pub stores_text : Setup → ℕ → ℕ → List PlainEvent → List ℕ
 stores_text setup r zero past = []
-stores_text setup r (suc n) past = store_text r (local setup r past) ++ stores_text setup (r + 1) n past
+stores_text setup r (suc n) past = store_text r (local setup r past)
+    ++ stores_text setup (r + 1) n past
 
--- the events in order, the commands by session and then by command, the stores by replica, the global store, and the number of events
+-- the events in order, the commands by session and then by command, the stores by replica, the
+-- global store, and the number of events
 unfoldable pub report_text : Setup → List PlainEvent → List ℕ
 report_text setup past =
     (codes "transcript" ++ line_feed) ++

@@ -6,6 +6,3 @@ mod results;
 mod whole;
 
 pub use whole::report;
-
-#[cfg(test)]
-mod tests;

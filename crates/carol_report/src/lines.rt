@@ -31,7 +31,8 @@ pub fn push_event(out: &mut String, event: &PlainEvent) -> Result<(), AllocError
 
 /// Appends the lines of events.
 pub fn push_events(out: &mut String, events: &[PlainEvent]) -> Result<(), AllocError>
-    ensures { OnOk result (string_bytes out.new ≡ string_bytes out.old ++ flat_map event_text events.now) }
+    ensures { OnOk result (string_bytes out.new ≡ string_bytes out.old
+        ++ flat_map event_text events.now) }
 {
     for event in events {
         push_event(out, event)?;
@@ -47,7 +48,8 @@ pub fn push_result(
     command: usize,
     outcome: Option<i64>,
 ) -> Result<(), AllocError>
-    ensures { OnOk result (string_bytes out.new ≡ string_bytes out.old ++ result_text session command outcome) }
+    ensures { OnOk result (string_bytes out.new
+        ≡ string_bytes out.old ++ result_text session command outcome) }
 {
     match outcome {
         Some(value) => writeln!(out, "result {session} {command} value {value}"),
@@ -68,7 +70,8 @@ pub fn push_values(out: &mut String, store: &Store) -> Result<(), AllocError>
 
 /// Appends the line of a replica's store.
 pub fn push_store(out: &mut String, replica: u32, store: &Store) -> Result<(), AllocError>
-    ensures { OnOk result (string_bytes out.new ≡ string_bytes out.old ++ store_text replica store.now) }
+    ensures { OnOk result (string_bytes out.new ≡ string_bytes out.old
+        ++ store_text replica store.now) }
 {
     write!(out, "store {replica}")?;
     push_values(out, store)?;

@@ -17,7 +17,8 @@ pub fn push_sessions(
     events: &[PlainEvent],
 ) -> Result<(), AllocError>
     requires { length sessions.now ≤ 64 }
-    ensures { OnOk result (string_bytes out.new ≡ string_bytes out.old ++ sessions_text 0 sessions.now (reverse events.now)) }
+    ensures { OnOk result (string_bytes out.new
+        ≡ string_bytes out.old ++ sessions_text 0 sessions.now (reverse events.now)) }
 {
     for (number, session) in sessions.iter().enumerate() {
         let values = results_of(alloc, events, number as u32)?;
@@ -33,7 +34,8 @@ fn push_commands(
     commands: &[PlainCommand],
     values: &[i64],
 ) -> Result<(), AllocError>
-    ensures { OnOk result (string_bytes out.new ≡ string_bytes out.old ++ commands_text session 0 commands.now values.now) }
+    ensures { OnOk result (string_bytes out.new
+        ≡ string_bytes out.old ++ commands_text session 0 commands.now values.now) }
 {
     for command in 0..commands.len() {
         push_result(out, session, command, value_at(values, command))?;

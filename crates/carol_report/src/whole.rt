@@ -8,7 +8,8 @@ use carol_house::PlainHouse;
 use std::alloc::{AllocError, Global};
 use std::fmt::Write;
 
-/// The report of the house: a line for each event, one for each command with its value or that it is open, one for each replica's store, the global store, and the number of events.
+/// The report of the house: a line for each event, one for each command with its value or that it
+/// is open, one for each replica's store, the global store, and the number of events.
 pub fn report(alloc: Global, house: &PlainHouse) -> Result<Vec<u8>, AllocError>
     ensures { IfOk result (λ bytes. bytes.items ≡ report_text house.now.setup house.now.history) }
 {
@@ -28,7 +29,9 @@ pub fn report(alloc: Global, house: &PlainHouse) -> Result<Vec<u8>, AllocError>
 
 // Appends the lines of the replicas' stores.
 fn push_stores(out: &mut String, house: &PlainHouse) -> Result<(), AllocError>
-    ensures { OnOk result (string_bytes out.new ≡ string_bytes out.old ++ stores_text house.now.setup 0 house.now.setup.replicas house.now.history) }
+    ensures { OnOk result (string_bytes out.new
+        ≡ string_bytes out.old ++ stores_text house.now.setup 0 house.now.setup.replicas
+        house.now.history) }
 {
     for replica in 0..house.replicas() {
         push_store(out, replica, &house.local(replica))?;

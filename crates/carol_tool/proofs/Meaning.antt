@@ -1,67 +1,76 @@
--- Which answers `step` gives.
-use Rattle.std.proofs.Common.{◌≡◌, ◌≢◌, ◌<◌, ◌≤◌, ℕ, List, length, sym, subst, ◌∙◌, inl, inr, arith}
-use Rattle.std.specs.Prelude.{Option}
+-- What a call with a command comes to.
+use Rattle.std.proofs.Common.{◌≡◌, ◌≤◌, ◌<◌, ℕ, List, length, sym, ap, subst, inl, inr, arith}
+use Rattle.std.specs.Prelude.{Some, None}
 use Rattle.std.specs.Io.KnownBytes.{Consumes, IsAtEnd}
+use Rattle.carol_history.specs.Scripts.{Scripted}
+use Rattle.carol_history.specs.Setup.{Setup}
 use Rattle.carol_syntax.specs.Files.{FileTree}
 use Rattle.carol_syntax_meaning.specs.Outcome.{Read, Bad, Large}
+use Rattle.carol_tool.specs.Answer.{Comes, Done, End, IsOwn, Meant, Means}
+use Rattle.carol_tool.specs.Reply.{IsSole}
+use Rattle.carol_tool.specs.Says.{Says}
+use Rattle.carol_tool.specs.Step.{FileSays, StepSays, script_answer}
+use Rattle.carol_tool.specs.Texts.{Answer}
+use Rattle.carol_tool.specs.Words.{command_of}
+use Rattle.carol_tool.specs.declared.call.TheConstants.{MOST_BYTES}
+use Rattle.carol_tool.specs.declared.command.Command.{Command}
+use Rattle.carol_tool.specs.declared.command.Command.TheVariants as command
 use Rattle.carol_tool.specs.declared.status.Status.{Status}
 use Rattle.carol_tool.specs.declared.status.Status.TheVariants as status
-use Rattle.carol_tool.specs.Words.{IsCommand}
-use Rattle.carol_tool.specs.Step.{Says, SaysOf}
-use Rattle.carol_tool.specs.Answer.{Means, Wrote, Answered, most_bytes}
 
--- the statuses that it may say
-abbrev IsSaid : Status → Type 0
-IsSaid status.Ok = Unit {0}
-IsSaid status.Text = Unit {0}
-IsSaid status.Script = Unit {0}
-IsSaid _ = ⊥
+-- `step` gives statuses of its own alone
 
-of_file : (file : FileTree) (s : Status) (text : List ℕ) → SaysOf file s text → IsSaid s
-of_file file status.Ok text h = tt
-of_file file status.Text text h = tt
-of_file file status.Script text h = tt
-of_file file s text h = h
+script_own : (setup : Setup) (script : Scripted) → IsOwn (script_answer setup script).0
+script_own setup script = elim script.bad as (λ bad. IsOwn (script_answer setup (record script { bad = bad })).0) [
+  | Some bad ↦ tt
+  | None ↦ tt
+]
 
-is_said : (bytes text : List ℕ) (s : Status) → Says bytes s text → IsSaid s
-is_said bytes text s (Read file, m, h) = of_file file s text h
-is_said bytes text s (Bad line column, m, h) = subst IsSaid (sym h.0) tt
-is_said bytes text s (Large limit, m, h) = subst IsSaid (sym h.0) tt
+file_own : (file : FileTree) (answer : Answer) → FileSays file answer → IsOwn answer.0
+file_own file answer (inl h) = subst (λ a. IsOwn a.0) (sym h.1) tt
+file_own file answer (inr (inl h)) = subst (λ a. IsOwn a.0) (sym h.2) tt
+file_own file answer (inr (inr h)) = subst (λ a. IsOwn a.0) h.1.outcome (script_own _ _)
 
--- it never says that there was a fault
-pub says_no_fault : (bytes text : List ℕ) (s : Status) → Says bytes s text → (s ≢ status.ReadFault) × (s ≢ status.WriteFault)
-says_no_fault bytes text s h = (λ e. subst IsSaid e (is_said bytes text s h), λ e. subst IsSaid e (is_said bytes text s h))
+step_own : (bytes : List ℕ) (answer : Answer) → StepSays bytes answer → IsOwn answer.0
+step_own bytes answer (Read file, m, h) = file_own file answer h
+step_own bytes answer (Bad row column, m, h) = subst (λ a. IsOwn a.0) (sym h) tt
+step_own bytes answer (Large limit, m, h) = subst (λ a. IsOwn a.0) (sym h) tt
 
--- what it says is what the bytes mean
-means_by : (words : List (List ℕ)) (bytes text : List ℕ) (s : Status) → IsSaid s → IsCommand words → length bytes ≤ most_bytes → Says bytes s text → Means words bytes s text
-means_by words bytes text status.Ok said command short h = (command, short, h)
-means_by words bytes text status.Text said command short h = (command, short, h)
-means_by words bytes text status.Script said command short h = (command, short, h)
-means_by words bytes text s said command short h = absurd said
-
-pub means_of_says : (words : List (List ℕ)) (bytes text : List ℕ) (s : Status) → IsCommand words → length bytes ≤ most_bytes → Says bytes s text → Means words bytes s text
-means_of_says words bytes text s command short h = means_by words bytes text s (is_said bytes text s h) command short h
-
--- a status that is no fault of the source is not answered as one
-pub wrote_no_fault : (old new : Option (List ℕ)) (s answered : Status) (text : List ℕ) → Wrote old new s text answered → s ≢ status.ReadFault → answered ≢ status.ReadFault
-wrote_no_fault old new s answered text (inl (same, all)) other = λ e. other (sym same ∙ e)
-wrote_no_fault old new s answered text (inr (fault, part)) other = λ e. cc
+-- of such a status, that the command says it is what it means
+own_means : (command : Command) (bytes : List ℕ) (old new : End) (meant : Status) (text : List ℕ) → IsOwn meant
+    → length bytes ≤ MOST_BYTES → Says command bytes meant text → Means command bytes old new meant text
+own_means command bytes old new status.Usage text own short h = absurd own
+own_means command bytes old new status.ReadFault text own short h = absurd own
+own_means command bytes old new status.WriteFault text own short h = absurd own
+own_means command bytes old new status.NoMemory text own short h = absurd own
+own_means command bytes old new status.TooLong text own short h = absurd own
+own_means command bytes old new meant text own short h = (short, h)
 
 -- what is no more than the limit
 pub within_from : (n m : ℕ) → (m < n → ⊥) → n ≤ m
 within_from n m h = grind arith
 
--- all bytes were read, and what they mean was written
-pub answered_as_said : (words : List (List ℕ)) (left left' taken taken' : Option (List ℕ)) (bytes buffer text written : List ℕ) (s answered : Status)
-    → IsCommand words → Consumes left left' bytes → length bytes ≤ most_bytes → buffer ≡ bytes → written ≡ text → Says buffer s text
-    → ((s' : Status) (t : List ℕ) → Says buffer s' t → (s' ≡ s) × (t ≡ text)) → IsAtEnd left' → Wrote taken taken' s written answered → Answered words left left' taken taken' answered
-answered_as_said words left left' taken taken' bytes buffer text written s answered command given short same told says only end wrote = record {
+-- all bytes were read, and the answer is the only one to them
+pub meant_by_step : (words : List (List ℕ)) (old new : End) (bytes buffer : List ℕ) (command : Command) (answer : Answer)
+    → command_of words ≡ Some command → Consumes old.bytes new.bytes bytes → length bytes ≤ MOST_BYTES → buffer ≡ bytes
+    → IsAtEnd new.bytes → old.faults ≤ new.faults → IsSole (StepSays buffer) answer → Meant words old new answer.0 answer.1
+meant_by_step words old new bytes buffer command.Step answer is given short same end counted sole = record {
   bytes = bytes;
   given = given;
-  meant = s;
-  text = written;
-  means = means_of_says words bytes written s command short (subst (λ t. Says bytes s t) (sym told) (subst (λ b. Says b s text) same says));
-  whole = λ _. end;
-  only = λ _ s' t h. (let one = only s' t (subst (λ b. Says b s' t) (sym same) h) in (one.0, one.1 ∙ sym told));
-  wrote = wrote;
+  comes = subst (λ c. Comes c bytes old new answer.0 answer.1) (sym is) done;
+  counted = counted;
 }
+  where
+    says : StepSays bytes answer
+    says = subst (λ b. StepSays b answer) same sole.has
+
+    only : (other : Answer) → StepSays bytes other → other ≡ answer
+    only other h = sole.only other (subst (λ b. StepSays b other) (sym same) h)
+
+    done : Done command.Step bytes old new answer.0 answer.1
+    done = record {
+      means = own_means command.Step bytes old new answer.0 answer.1 (step_own bytes answer says) short says;
+      whole = λ _ _. end;
+      status_fixed = λ _ _ s t h. ap (λ a. a.0) (only (s, t) h);
+      text_fixed = λ _ _ t h. ap (λ a. a.1) (only (answer.0, t) h);
+    }

@@ -1,48 +1,87 @@
 -- What a call answers: the status, and the text that was written.
-use Rattle.std.specs.Prelude.{◌≡◌, ◌⊎◌, ◌<◌, ◌≤◌, ℕ, List, Option, [], ◌∷◌, ◌++◌, length, take, codes}
+use Rattle.std.specs.Prelude.{◌≡◌, ◌⊎◌, ◌<◌, ◌≤◌, ℕ, List, Option, Some, None, [], length, take}
 use Rattle.std.specs.Io.KnownBytes.{Consumes, Appends, IsAtEnd}
-use Rattle.carol_tool.specs.Words.{IsCommand}
-use Rattle.carol_tool.specs.Step.{Says}
+use Rattle.carol_outer.specs.Faults.{Rose}
+use Rattle.carol_tool.specs.Says.{Says, ReadsAll, FixesStatus, FixesText}
+use Rattle.carol_tool.specs.Texts.{stop_answer}
+use Rattle.carol_tool.specs.Words.{command_of}
+use Rattle.carol_tool.specs.declared.call.TheConstants.{MOST_BYTES}
+use Rattle.carol_tool.specs.declared.command.Command.{Command}
+use Rattle.carol_tool.specs.declared.reply.Stop.TheVariants as stop
 use Rattle.carol_tool.specs.declared.status.Status.{Status}
 use Rattle.carol_tool.specs.declared.status.Status.TheVariants as status
 
--- the most bytes that an input has
-abbrev pub most_bytes : ℕ
-most_bytes = 67108864
+-- What a source or a sink tells: the bytes that are left or were taken, unless it keeps them to
+-- itself, and how many faults it counted.
+pub record End : Type 0 where
+  pub bytes : Option (List ℕ)
+  pub faults : ℕ
 
--- Read with these words, the bytes mean this status and this text. Want of memory and a fault of the
--- source may come in the place of any other answer to a command.
-abbrev pub Means : List (List ℕ) → List ℕ → Status → List ℕ → Type 0
-Means words bytes status.Usage text = (IsCommand words → ⊥) × (bytes ≡ []) × (text ≡ codes "usage: carol check, step, run, audit or gen N" ++ 10 ∷ [])
-Means words bytes status.ReadFault text = IsCommand words × (length bytes ≤ most_bytes) × (text ≡ codes "read fault" ++ 10 ∷ [])
-Means words bytes status.NoMemory text = IsCommand words × (length bytes ≤ most_bytes) × (text ≡ codes "no memory" ++ 10 ∷ [])
-Means words bytes status.TooLong text = IsCommand words × (most_bytes < length bytes) × (text ≡ codes "too long" ++ 10 ∷ [])
-Means words bytes meant text = IsCommand words × (length bytes ≤ most_bytes) × Says bytes meant text
+abbrev pub end_of : Option (List ℕ) → ℕ → End
+end_of bytes faults = record { bytes = bytes; faults = faults }
 
--- an answer before which all bytes are read
-abbrev pub IsAfterReading : Status → Type 0
-IsAfterReading status.Usage = ⊥
-IsAfterReading status.ReadFault = ⊥
-IsAfterReading status.NoMemory = ⊥
-IsAfterReading status.TooLong = ⊥
-IsAfterReading meant = Unit {0}
+-- a status that the command itself gives, once it has its input
+abbrev pub IsOwn : Status → Type 0
+IsOwn status.Usage = ⊥
+IsOwn status.ReadFault = ⊥
+IsOwn status.WriteFault = ⊥
+IsOwn status.NoMemory = ⊥
+IsOwn status.TooLong = ⊥
+IsOwn meant = Unit {0}
 
--- The text of the status that is meant was written, and that status is answered; or writing failed after a part of the text.
-abbrev pub Wrote : Option (List ℕ) → Option (List ℕ) → Status → List ℕ → Status → Type 0
-Wrote old new meant text answered =
-    ((answered ≡ meant) × Appends old new text)
-    ⊎ ((answered ≡ status.WriteFault) × ((n : ℕ) × (n ≤ length text) × Appends old new (take n text)))
+-- Of these bytes and this source the command makes this status and this text. A fault of the
+-- source, and want of memory, may come in the place of any other answer.
+abbrev pub Means : Command → List ℕ → End → End → Status → List ℕ → Type 0
+Means command bytes old new status.Usage text = ⊥
+Means command bytes old new status.WriteFault text = ⊥
+Means command bytes old new status.ReadFault text =
+    (length bytes ≤ MOST_BYTES) × (text ≡ (stop_answer stop.ReadFault).1)
+    × Rose old.faults new.faults
+Means command bytes old new status.NoMemory text =
+    (length bytes ≤ MOST_BYTES) × (text ≡ (stop_answer stop.NoMemory).1)
+Means command bytes old new status.TooLong text =
+    (MOST_BYTES < length bytes) × (text ≡ (stop_answer stop.TooLong).1)
+Means command bytes old new meant text = (length bytes ≤ MOST_BYTES) × Says command bytes meant text
 
--- A call with these words, from what the source has left and the sink took before it to what they have after it.
-pub record Answered (words : List (List ℕ)) (left left' taken taken' : Option (List ℕ)) (answered : Status) : Type 0 where
-  -- the bytes that the source gave
-  pub bytes : List ℕ
-  pub given : Consumes left left' bytes
-  -- the status that they mean, and its text
+-- What a command comes to.
+pub record Done (command : Command) (bytes : List ℕ) (old new : End) (meant : Status)
+    (text : List ℕ) : Type 0 where
+  pub means : Means command bytes old new meant text
+  -- with a status of its own it has read all bytes, and they mean no other status nor another text
+  pub whole : IsOwn meant → ReadsAll command → IsAtEnd new.bytes
+  pub status_fixed : IsOwn meant → FixesStatus command → (s : Status) (t : List ℕ)
+      → Says command bytes s t → s ≡ meant
+  pub text_fixed : IsOwn meant → FixesText command meant → (t : List ℕ) → Says command bytes meant t
+      → t ≡ text
+
+-- words that are no command are answered with the usage, and nothing is read
+abbrev pub Comes : Option Command → List ℕ → End → End → Status → List ℕ → Type 0
+Comes None bytes old new meant text = (bytes ≡ []) × ((meant, text) ≡ stop_answer stop.Usage)
+Comes (Some command) bytes old new meant text = Done command bytes old new meant text
+
+-- What a call with these words is to answer, from what the source tells before it and behind it.
+pub record Meant (words : List (List ℕ)) (old new : End) (meant : Status) (text : List ℕ) : Type 0
+  where
+    -- the bytes that the source gave
+    pub bytes : List ℕ
+    pub given : Consumes old.bytes new.bytes bytes
+    pub comes : Comes (command_of words) bytes old new meant text
+    pub counted : old.faults ≤ new.faults
+
+-- The text was written, and its status is answered; or writing failed after a part of the text, and
+-- the sink counted that.
+pub record Wrote (old new : End) (meant : Status) (text : List ℕ) (answered : Status) : Type 0 where
+  pub written :
+      ((answered ≡ meant) × Appends old.bytes new.bytes text)
+      ⊎ ((answered ≡ status.WriteFault) × Rose old.faults new.faults
+      × ((n : ℕ) × (n ≤ length text) × Appends old.bytes new.bytes (take n text)))
+  pub counted : old.faults ≤ new.faults
+
+-- A call with these words, from what the source and the sink tell before it to what they tell
+-- behind it.
+pub record Answered (words : List (List ℕ)) (source source' sink sink' : End) (answered : Status) :
+    Type 0 where
   pub meant : Status
   pub text : List ℕ
-  pub means : Means words bytes meant text
-  -- after any other answer than these four all bytes were read, and they mean nothing else
-  pub whole : IsAfterReading meant → IsAtEnd left'
-  pub only : IsAfterReading meant → (s : Status) (t : List ℕ) → Says bytes s t → (s ≡ meant) × (t ≡ text)
-  pub wrote : Wrote taken taken' meant text answered
+  pub means : Meant words source source' meant text
+  pub wrote : Wrote sink sink' meant text answered

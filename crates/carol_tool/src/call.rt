@@ -1,20 +1,25 @@
-ghost use Rattle.std.specs.Prelude.{◌≡◌, ◌≢◌, ◌↔◌, ◌≤◌, ◌++◌, [], ◌∷◌, IsTrue, codes};
+ghost use Rattle.std.specs.Prelude.{◌≡◌, ◌≢◌, ◌↔◌, ◌≤◌, [], ◌∷◌, IsTrue, codes};
 ghost use Rattle.carol_outer.specs.Faults.{Rose};
+ghost use Rattle.carol_tool.specs.Answer.{Answered, Meant, Wrote, end_of};
+ghost use Rattle.carol_tool.specs.Reply.{outcome_answer};
+ghost use Rattle.carol_tool.specs.Texts.{stop_answer};
 ghost use Rattle.carol_tool.specs.Words.{texts};
-ghost use Rattle.carol_tool.specs.Answer.{Answered, Wrote};
 
+use super::command::{Command, command_of};
+use super::reply::{Reply, Stop};
 use super::status::Status;
 use super::step::step;
-use carol_outer::{Gate, ReadError, Sink, Source, read_all, write_all};
+use carol_outer::{Gate, Sink, Source, read_all, write_all};
 use std::alloc::Global;
 use std::sync::Wait;
 use std::thread::Threads;
 
 /// The most bytes that an input has.
-const MOST_BYTES: usize = 67_108_864;
+pub const MOST_BYTES: usize = 67_108_864;
 
 /// Does what the words of a command line say, of which the single word `run` is no part: reads the
-/// source, writes one text to the sink and answers the status. It waits for nobody.
+/// source, writes one text to the sink and answers the status. `ReadFault` and `WriteFault` come
+/// only where the source or the sink counted a fault. It waits for nobody.
 pub fn plain<R: Threads + Sync, S: Source, K: Sink>(
     _rt: &R,
     alloc: Global,
@@ -23,31 +28,26 @@ pub fn plain<R: Threads + Sync, S: Source, K: Sink>(
     sink: &mut K,
 ) -> Status
     requires { texts words.now ≢ codes "run" ∷ [] }
-
-    ensures answered { Answered (texts words.now) (S.left source.old) (S.left source.new) (K.taken sink.old) (K.taken sink.new) result }
-
-    // A fault is answered only where its count rose.
-    ensures read_fault { result ≡ Status.ReadFault → Rose (S.faults source.old) (S.faults source.new) }
-    ensures write_fault { result ≡ Status.WriteFault → Rose (K.faults sink.old) (K.faults sink.new) }
-    ensures source_counted { S.faults source.old ≤ S.faults source.new }
-    ensures sink_counted { K.faults sink.old ≤ K.faults sink.new }
+    ensures answered { Answered (texts words.now)
+        (end_of (S.left source.old) (S.faults source.old))
+        (end_of (S.left source.new) (S.faults source.new))
+        (end_of (K.taken sink.old) (K.faults sink.old))
+        (end_of (K.taken sink.new) (K.faults sink.new))
+        result }
+    ensures read_fault { result ≡ Status.ReadFault
+        → Rose (S.faults source.old) (S.faults source.new) }
+    ensures write_fault { result ≡ Status.WriteFault
+        → Rose (K.faults sink.old) (K.faults sink.new) }
 {
-    if !is_word(words, b"step") {
-        return usage(sink);
-    }
-    match read_all(alloc, source, MOST_BYTES) {
-        Err(ReadError::Fault) => say(sink, Status::ReadFault, b"read fault\n"),
-        Err(ReadError::TooLong) => say(sink, Status::TooLong, b"too long\n"),
-        Err(ReadError::NoMemory) => say(sink, Status::NoMemory, b"no memory\n"),
-        Ok(bytes) => match step(alloc, &bytes) {
-            Ok(said) => say(sink, said.status, &said.text),
-            Err(_) => say(sink, Status::NoMemory, b"no memory\n"),
-        },
+    match reply(alloc, words, source) {
+        Ok(reply) => say(sink, reply.status, &reply.text),
+        Err(stop) => say(sink, stop.status(), stop.text()),
     }
 }
 
 /// Does what the words of a command line say: reads the source, writes one text to the sink and
-/// answers the status.
+/// answers the status. `ReadFault` and `WriteFault` come only where the source or the sink counted
+/// a fault.
 pub fn carol<R: Threads + Wait + Sync, S: Source, K: Sink, G: Gate + Sync>(
     rt: &R,
     alloc: Global,
@@ -56,16 +56,19 @@ pub fn carol<R: Threads + Wait + Sync, S: Source, K: Sink, G: Gate + Sync>(
     sink: &mut K,
     _gate: &G,
 ) -> Status
-    ensures answered { Answered (texts words.now) (S.left source.old) (S.left source.new) (K.taken sink.old) (K.taken sink.new) result }
-
-    // A fault is answered only where its count rose.
-    ensures read_fault { result ≡ Status.ReadFault → Rose (S.faults source.old) (S.faults source.new) }
-    ensures write_fault { result ≡ Status.WriteFault → Rose (K.faults sink.old) (K.faults sink.new) }
-    ensures source_counted { S.faults source.old ≤ S.faults source.new }
-    ensures sink_counted { K.faults sink.old ≤ K.faults sink.new }
+    ensures answered { Answered (texts words.now)
+        (end_of (S.left source.old) (S.faults source.old))
+        (end_of (S.left source.new) (S.faults source.new))
+        (end_of (K.taken sink.old) (K.faults sink.old))
+        (end_of (K.taken sink.new) (K.faults sink.new))
+        result }
+    ensures read_fault { result ≡ Status.ReadFault
+        → Rose (S.faults source.old) (S.faults source.new) }
+    ensures write_fault { result ≡ Status.WriteFault
+        → Rose (K.faults sink.old) (K.faults sink.new) }
 {
     if is_word(words, b"run") {
-        return usage(sink);
+        return say(sink, Stop::Usage.status(), Stop::Usage.text());
     }
     plain(rt, alloc, words, source, sink)
 }
@@ -80,25 +83,26 @@ fn is_word(words: &[Vec<u8>], word: &[u8]) -> bool
     }
 }
 
-// Says how the program is called.
-fn usage<K: Sink>(sink: &mut K) -> Status
-    ensures wrote { Wrote (K.taken sink.old) (K.taken sink.new) Status.Usage (codes "usage: carol check, step, run, audit or gen N" ++ 10 ∷ []) result }
-    ensures fault { result ≡ Status.WriteFault → Rose (K.faults sink.old) (K.faults sink.new) }
-    ensures read { result ≢ Status.ReadFault }
-    ensures counted { K.faults sink.old ≤ K.faults sink.new }
+// Does what the words say, with what the source gives.
+fn reply<S: Source>(alloc: Global, words: &[Vec<u8>], source: &mut S) -> Result<Reply, Stop>
+    ensures { let answer = outcome_answer result in
+        Meant (texts words.now)
+        (end_of (S.left source.old) (S.faults source.old))
+        (end_of (S.left source.new) (S.faults source.new))
+        answer.0 answer.1 }
 {
-    say(
-        sink,
-        Status::Usage,
-        b"usage: carol check, step, run, audit or gen N\n",
-    )
+    let command = command_of(words).ok_or(Stop::Usage)?;
+    let bytes = read_all(alloc, source, MOST_BYTES)?;
+    match command {
+        Command::Step => Ok(step(alloc, &bytes)?),
+    }
 }
 
 // Writes the text of a status, and answers that status unless writing failed.
 fn say<K: Sink>(sink: &mut K, status: Status, text: &[u8]) -> Status
-    ensures wrote { Wrote (K.taken sink.old) (K.taken sink.new) status text.now result }
-    ensures fault { result ≢ status → Rose (K.faults sink.old) (K.faults sink.new) }
-    ensures counted { K.faults sink.old ≤ K.faults sink.new }
+    ensures { Wrote (end_of (K.taken sink.old) (K.faults sink.old))
+        (end_of (K.taken sink.new) (K.faults sink.new))
+        status text.now result }
 {
     match write_all(sink, text) {
         Ok(()) => status,

@@ -1,11 +1,13 @@
-// The top call: words and bytes in, a text and a status out.
+//! The top call: the words of a command line and the bytes of an input in, a text and a status out.
 #![tactic(auto)]
 
 mod call;
+mod command;
+mod reply;
 mod status;
 mod step;
 #[cfg(test)]
 mod tests;
 
-pub use call::{carol, plain};
+pub use call::{MOST_BYTES, carol, plain};
 pub use status::{Status, number};

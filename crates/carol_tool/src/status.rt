@@ -6,7 +6,8 @@ ghost use Rattle.carol_tool.specs.Status.{number_of};
 pub enum Status {
     /// The job was done and its whole text was written.
     Ok,
-    /// The program of the file was refused: what comes first among what isn't proved of it is broken.
+    /// The program of the file was refused: what comes first among what isn't proved of it is
+    /// broken.
     Refused,
     /// The input isn't in the form that the command takes.
     Text,

@@ -85,9 +85,13 @@ global 3 5
 end 2
 ";
 
-// The same input in one line, with other names and parentheses that aren't needed.
-const ONE_LINE: &[u8] =
-    b"program counter a = 0 ; counter b = 5 ; invariant true ; op inc ( n : - 1000000000 <= n and n <= 1000000000 ) gives true { issue a += n ; return n ; } op addb ( n : ( - 1000000000 <= n ) and ( n <= 1000000000 ) ) gives ( true ) { issue b += n ; return n ; } end scene replicas 2 ; tries 1 ; workers 2 ; gossipers 1 ; session at 0 { inc ( 3 ) ; } session at 1 { addb ( - 2 ) ; inc ( 4 ) times 1 ; } end script go 0 ; go 1 ; gossip 0 1 ; go 0 ; go 1 ; go 1 ; go 1 ; gossip 1 0 ; gossip 1 0 ; end";
+// The same input laid out otherwise, with other names and parentheses that aren't needed.
+const OTHER_LAYOUT: &[u8] = b"program counter a = 0 ; counter b = 5 ; invariant true ;
+  op inc ( n : - 1000000000 <= n and n <= 1000000000 ) gives true { issue a += n ; return n ; }
+  op addb ( n : ( - 1000000000 <= n ) and ( n <= 1000000000 ) ) gives ( true ) { issue
+  b += n ; return n ; } end scene replicas 2 ; tries 1 ; workers 2 ; gossipers 1 ; session at
+  0 { inc ( 3 ) ; } session at 1 { addb ( - 2 ) ; inc ( 4 ) times 1 ; } end script go 0 ; go 1 ;
+  gossip 0 1 ; go 0 ; go 1 ; go 1 ; go 1 ; gossip 1 0 ; gossip 1 0 ; end";
 
 const THRICE: &[u8] = b"session at 1 {
 adda(1) times 3;
@@ -199,9 +203,9 @@ fn with_comments(alloc: Global, bytes: &[u8]) -> Result<Vec<u8>, Fail> {
 
 #[test]
 fn reads_any_layout(rt: HostRuntime) -> Result<(), Fail> {
-    let noted = with_comments(rt.alloc(), ONE_LINE)?;
+    let noted = with_comments(rt.alloc(), OTHER_LAYOUT)?;
     let rows: [([&[u8]; 3], &[u8]); 3] = [
-        ([ONE_LINE, b"", b""], WHOLE_REPORT),
+        ([OTHER_LAYOUT, b"", b""], WHOLE_REPORT),
         ([noted.as_slice(), b"# the end", b""], WHOLE_REPORT),
         ([PROGRAM, SCENE, THRICE], THRICE_REPORT),
     ];

@@ -1,0 +1,67 @@
+-- The texts of the statuses, each ended by a line feed. With Ok a command says a text of its own,
+-- `step` a report; with WriteFault a part of another text was written.
+use Rattle.std.specs.Prelude.{List, ℕ, ◌++◌, codes, decimal}
+use Rattle.carol_history.specs.declared.script.ScriptCause.{ScriptCause}
+use Rattle.carol_history.specs.declared.script.ScriptCause.TheVariants as cause
+use Rattle.carol_outer.specs.declared.whole.ReadError.{ReadError}
+use Rattle.carol_outer.specs.declared.whole.ReadError.TheVariants as read
+use Rattle.carol_report.specs.Events.{line_feed}
+use Rattle.carol_syntax_meaning.specs.declared.limit.TextLimit.{TextLimit}
+use Rattle.carol_syntax_meaning.specs.declared.limit.TextLimit.TheVariants as limit
+use Rattle.carol_tool.specs.declared.command.Command.{Command}
+use Rattle.carol_tool.specs.declared.command.Command.TheVariants as command
+use Rattle.carol_tool.specs.declared.reply.Stop.{Stop}
+use Rattle.carol_tool.specs.declared.reply.Stop.TheVariants as stop
+use Rattle.carol_tool.specs.declared.reply.Line.{Line}
+use Rattle.carol_tool.specs.declared.reply.Line.TheVariants as line
+use Rattle.carol_tool.specs.declared.status.Status.{Status}
+use Rattle.carol_tool.specs.declared.status.Status.TheVariants as status
+
+-- a status and its text
+abbrev pub Answer : Type 0
+Answer = Status × List ℕ
+
+-- what is answered where a command can't be done, whatever the input is
+abbrev pub stop_answer : Stop → Answer
+stop_answer stop.Usage =
+    (status.Usage, codes "usage: carol check, step, run, audit or gen N" ++ line_feed)
+stop_answer stop.ReadFault = (status.ReadFault, codes "read fault" ++ line_feed)
+stop_answer stop.NoMemory = (status.NoMemory, codes "no memory" ++ line_feed)
+stop_answer stop.TooLong = (status.TooLong, codes "too long" ++ line_feed)
+
+-- what keeps a command from being done where its input wasn't read
+abbrev pub stop_of : ReadError → Stop
+stop_of read.Fault = stop.ReadFault
+stop_of read.TooLong = stop.TooLong
+stop_of read.NoMemory = stop.NoMemory
+
+abbrev pub command_word : Command → List ℕ
+command_word command.Step = codes "step"
+
+abbrev pub limit_name : TextLimit → List ℕ
+limit_name limit.ProgramBytes = codes "program bytes"
+limit_name limit.FormulaNodes = codes "formula nodes"
+limit_name limit.BodyDepth = codes "body depth"
+limit_name limit.ScriptLines = codes "script lines"
+
+-- why a statement gives no event
+abbrev pub cause_name : ScriptCause → List ℕ
+cause_name cause.NoSuchSession = codes "no such session"
+cause_name cause.Finished = codes "finished"
+cause_name cause.NoSuchPair = codes "no such pair"
+cause_name cause.NothingNew = codes "nothing new"
+
+-- the texts of one line
+abbrev pub line_text : Line → List ℕ
+line_text (line.BadText row column) =
+    codes "text " ++ (decimal row ++ (codes " " ++ (decimal column ++ line_feed)))
+line_text (line.TooLarge limit) = codes "too large " ++ (limit_name limit ++ line_feed)
+line_text (line.PartMissing command) = codes "parts " ++ (command_word command ++ line_feed)
+line_text line.NotPlain = codes "plain form only" ++ line_feed
+line_text (line.BadStatement bad) =
+    codes "script " ++ (decimal bad.number ++ (codes " " ++ (cause_name bad.cause ++ line_feed)))
+
+-- each with its status
+abbrev pub line_answer : Line → Answer
+line_answer (line.BadStatement bad) = (status.Script, line_text (line.BadStatement bad))
+line_answer said = (status.Text, line_text said)

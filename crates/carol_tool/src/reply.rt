@@ -1,0 +1,168 @@
+ghost use Rattle.std.specs.Prelude.{◌≡◌, Some, IfOk};
+ghost use Rattle.carol_tool.specs.Reply.{answer_of};
+ghost use Rattle.carol_tool.specs.Texts.{
+  limit_name,
+  line_answer,
+  line_text,
+  stop_answer,
+  cause_name,
+};
+
+use super::command::Command;
+use super::status::Status;
+use carol_history::{BadLine, ScriptCause};
+use carol_outer::ReadError;
+use carol_parse::TextLimit;
+use std::alloc::{AllocError, Global};
+use std::fmt;
+
+/// A status and its text.
+#[derive(Drop)]
+pub struct Reply {
+    pub status: Status,
+    pub text: Vec<u8>,
+}
+
+/// What keeps a command from being done, whatever the input is. Its text takes no memory.
+#[derive(Clone, Copy, Debug, PartialEq, Eq)]
+pub enum Stop {
+    /// The words are no command.
+    Usage,
+    /// Reading the input failed.
+    ReadFault,
+    /// There was no memory.
+    NoMemory,
+    /// The input is too long.
+    TooLong,
+}
+
+impl Stop {
+    /// The status that says it.
+    pub(crate) fn status(self) -> Status
+        ensures { result ≡ (stop_answer self).0 }
+    {
+        match self {
+            Stop::Usage => Status::Usage,
+            Stop::ReadFault => Status::ReadFault,
+            Stop::NoMemory => Status::NoMemory,
+            Stop::TooLong => Status::TooLong,
+        }
+    }
+
+    /// The text of that status.
+    pub(crate) fn text(self) -> &'static [u8]
+        ensures { result.now ≡ (stop_answer self).1 }
+    {
+        match self {
+            Stop::Usage => b"usage: carol check, step, run, audit or gen N\n",
+            Stop::ReadFault => b"read fault\n",
+            Stop::NoMemory => b"no memory\n",
+            Stop::TooLong => b"too long\n",
+        }
+    }
+}
+
+impl From<ReadError> for Stop {
+    ghost use Rattle.carol_tool.specs.Texts.{stop_of};
+
+    ghost from_gives = { λ error stop. stop ≡ stop_of error };
+
+    fn from(error: ReadError) -> Stop {
+        match error {
+            ReadError::Fault => Stop::ReadFault,
+            ReadError::TooLong => Stop::TooLong,
+            ReadError::NoMemory => Stop::NoMemory,
+        }
+    }
+}
+
+impl From<AllocError> for Stop {
+    ghost use Rattle.carol_tool.specs.declared.reply.Stop.TheVariants.{NoMemory};
+
+    ghost from_gives = { λ _ stop. stop ≡ NoMemory };
+
+    fn from(_: AllocError) -> Stop {
+        Stop::NoMemory
+    }
+}
+
+/// What a command says in one line.
+#[derive(Clone, Copy, Debug, PartialEq, Eq)]
+pub enum Line {
+    /// The text is bad at this place.
+    BadText { line: u32, column: u32 },
+    /// The text passes this limit.
+    TooLarge(TextLimit),
+    /// The file has no part that the command takes.
+    PartMissing(Command),
+    /// The file isn't in the plain form.
+    NotPlain,
+    /// A statement of the script gives no event.
+    BadStatement(BadLine),
+}
+
+impl Line {
+    /// The status that says it.
+    pub(crate) fn status(self) -> Status
+        ensures { result ≡ (line_answer self).0 }
+    {
+        match self {
+            Line::BadStatement(_) => Status::Script,
+            _ => Status::Text,
+        }
+    }
+}
+
+impl fmt::Display for Line {
+    ghost output = { λ line. Some (line_text line) };
+
+    fn fmt<W: fmt::Write>(&self, f: &mut fmt::Formatter<W>) -> fmt::Result {
+        match *self {
+            Line::BadText { line, column } => writeln!(f, "text {line} {column}"),
+            Line::TooLarge(limit) => {
+                let name = limit_name(limit);
+                writeln!(f, "too large {name}")
+            }
+            Line::PartMissing(command) => writeln!(f, "parts {command}"),
+            Line::NotPlain => writeln!(f, "plain form only"),
+            Line::BadStatement(bad) => {
+                let number = bad.number;
+                let cause = cause_name(bad.cause);
+                writeln!(f, "script {number} {cause}")
+            }
+        }
+    }
+}
+
+/// The reply that says this line.
+pub(crate) fn one_line(alloc: Global, line: Line) -> Result<Reply, AllocError>
+    ensures { IfOk result (λ reply. answer_of reply ≡ line_answer line) }
+{
+    let text = format!(in alloc; "{line}")?;
+    Ok(Reply {
+        status: line.status(),
+        text: text.into_bytes(),
+    })
+}
+
+fn limit_name(limit: TextLimit) -> &'static str
+    ensures { result.now ≡ limit_name limit }
+{
+    match limit {
+        TextLimit::ProgramBytes => "program bytes",
+        TextLimit::FormulaNodes => "formula nodes",
+        TextLimit::BodyDepth => "body depth",
+        TextLimit::ScriptLines => "script lines",
+    }
+}
+
+fn cause_name(cause: ScriptCause) -> &'static str
+    ensures { result.now ≡ cause_name cause }
+{
+    match cause {
+        ScriptCause::NoSuchSession => "no such session",
+        ScriptCause::Finished => "finished",
+        ScriptCause::NoSuchPair => "no such pair",
+        ScriptCause::NothingNew => "nothing new",
+    }
+}
