@@ -3,6 +3,8 @@ use Rattle.carol_formula.specs.Claim as claim
 use Rattle.carol_formula.specs.Claim.{Claim}
 use Rattle.carol_formula.specs.declared.formula.Formula.{Formula, fold-Formula}
 use Rattle.carol_formula.specs.declared.formula.Formula.TheOpen.{Formula-F}
+use Rattle.carol_formula.specs.declared.formula.Comparison.{Comparison}
+use Rattle.carol_formula.specs.Linear.{Linear}
 
 -- one level, where each part gives its claim
 abbrev pub claim_at : Formula-F Claim → Claim
@@ -17,3 +19,9 @@ claim_at (Formula-F.Not a) = claim.Not a
 
 abbrev pub claim_of : Formula → Claim
 claim_of = fold-Formula Claim claim_at
+
+-- the formula that compares the term with 0
+abbrev pub comparing : Comparison → Linear → Formula
+comparing Comparison.Le t = Formula.Le t
+comparing Comparison.Eq t = Formula.Eq t
+comparing Comparison.Ne t = Formula.Ne t

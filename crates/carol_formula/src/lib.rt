@@ -2,11 +2,15 @@
 #![tactic(auto)]
 
 mod formula;
+mod number;
 mod term;
 #[cfg(test)]
 mod tests;
 mod variable;
 
 pub use formula::Formula;
+pub use number::{
+    NARROW_LIMIT, ROW_LIMIT, TERM_LIMIT, VALUE_LIMIT, is_below, product_within, sum_within,
+};
 pub use term::{Row, Term, TermError};
 pub use variable::{Lookup, Valuation, Variable};

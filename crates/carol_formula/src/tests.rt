@@ -1,4 +1,5 @@
 use crate::formula::Formula;
+use crate::number::NARROW_LIMIT;
 use crate::term::{Term, TermError};
 use crate::variable::{Valuation, Variable};
 use sqlite_items::Boxed;
@@ -148,7 +149,7 @@ fn a_denial_is_pushed_to_the_comparisons(rt: HostRuntime) -> Result<(), Fail> {
         not(alloc, at_most_zero(alloc, 2)?)?,
     )?;
     let formula = not(alloc, both(alloc, at_most_zero(alloc, 0)?, some)?)?;
-    assert!(rt; formula.is_narrow());
+    assert!(rt; formula.is_within(NARROW_LIMIT));
     let plain = formula.negation_form(alloc)?;
     // x > 0, or y is 0 and z <= 0
     let table = [
@@ -193,9 +194,9 @@ fn survives(
     let here = Valuation::new(alloc);
     assert!(rt; formula.fits(&here));
     assert!(rt; formula.holds(&here));
-    assert!(rt; formula.is_narrow());
+    assert!(rt; formula.is_within(NARROW_LIMIT));
     let denied = not(alloc, formula.copy(alloc)?)?;
-    assert!(rt; denied.is_narrow());
+    assert!(rt; denied.is_within(NARROW_LIMIT));
     let plain = denied.negation_form(alloc)?;
     assert!(rt; plain.fits(&here));
     assert!(rt; !plain.holds(&here));
