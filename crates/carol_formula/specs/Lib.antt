@@ -1,3 +1,4 @@
+pub mod formers
 pub mod Bounds
 pub mod Linear
 pub mod Weight

@@ -6,9 +6,9 @@ ghost use Rattle.carol_formula.specs.Linear.{IsWithin, constant_of, difference_o
 ghost use Rattle.carol_formula.specs.Tree.{claim_of, comparing};
 ghost use Rattle.carol_formula.specs.Value.{value_at, set_at};
 
+use crate::boxed::Boxed;
 use crate::term::{Term, TermError};
 use crate::variable::{Lookup, Variable};
-use sqlite_items::Boxed;
 use std::alloc::{AllocError, Global};
 
 /// A formula. `Le`, `Eq` and `Ne` compare their term with 0.

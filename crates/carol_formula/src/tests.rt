@@ -1,8 +1,8 @@
 use crate::formula::Formula;
 use crate::number::NARROW_LIMIT;
+use crate::boxed::Boxed;
 use crate::term::{Term, TermError};
 use crate::variable::{Valuation, Variable};
-use sqlite_items::Boxed;
 use std::alloc::{AllocError, Global};
 use std::test::Fail;
 
