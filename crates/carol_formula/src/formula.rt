@@ -1,9 +1,9 @@
-ghost use Rattle.std.specs.Prelude.{ℕ, ℤ, ◌≡◌, ◌≤◌, ◌*◌, min, true, false, not, IsTrue, ◌↔◌, IfOk, pos, if◌then◌else◌};
+ghost use Rattle.std.specs.Prelude.{ℕ, ℤ, ◌≡◌, ◌≤◌, ◌<◌, ◌+◌, ◌*◌, min, true, false, not, IsTrue, ◌↔◌, IfOk, pos, if◌then◌else◌};
 ghost use Rattle.carol_formula.specs.Bounds.{term_limit, narrow_limit};
 ghost use Rattle.carol_formula.specs.Claim as claim;
 ghost use Rattle.carol_formula.specs.Claim.{truth, ClaimFits, ClaimWithin, HasNoNot, with_term, without_not, cases_of};
 ghost use Rattle.carol_formula.specs.Linear.{IsWithin, constant_of, difference_of, replaced};
-ghost use Rattle.carol_formula.specs.Tree.{claim_of, comparing};
+ghost use Rattle.carol_formula.specs.Tree.{claim_of, comparing, rank_of};
 ghost use Rattle.carol_formula.specs.Value.{value_at, set_at};
 
 use crate::boxed::Boxed;
@@ -32,8 +32,8 @@ enum Comparison {
     Ne,
 }
 
-// A part without parts of its own is let go of first, so that a chain takes no stack, on whichever side its
-// next part stands.
+// A loop, so that it takes no stack, however deep the formula is. Of two parts the left one is taken apart
+// first: its own right part goes before the right one, in the box that it leaves.
 impl Drop for Formula {
     fn drop(mut self) {
         loop {
@@ -41,13 +41,14 @@ impl Drop for Formula {
                 Formula::True | Formula::False => return,
                 Formula::Le(_) | Formula::Eq(_) | Formula::Ne(_) => return,
                 Formula::Not(inner) => self = inner.into_inner(),
-                Formula::And(left, right) | Formula::Or(left, right) => {
-                    let left = left.into_inner();
-                    let right = right.into_inner();
-                    if right.is_comparison() {
-                        self = left;
+                Formula::And(mut left, right) | Formula::Or(mut left, right) => {
+                    if left.get().has_parts() {
+                        let first = left.replace(Formula::True);
+                        let (next, _emptied) = first.turned(left, right);
+                        self = next;
                     } else {
-                        self = right;
+                        let _leaf = left.into_inner();
+                        self = right.into_inner();
                     }
                 }
             }
@@ -69,11 +70,30 @@ fn product(a: u32, b: u32) -> u32
 }
 
 impl Formula {
-    // The formula has no parts.
-    fn is_comparison(&self) -> bool {
+    // The formula has formulas as its parts.
+    fn has_parts(&self) -> bool
+        ensures { IsTrue result ↔ (1 < rank_of self.now) }
+    {
         match self {
-            Formula::And(_, _) | Formula::Or(_, _) | Formula::Not(_) => false,
-            _ => true,
+            Formula::And(_, _) | Formula::Or(_, _) | Formula::Not(_) => true,
+            _ => false,
+        }
+    }
+
+    // What is left to be dropped of this left part, taken out of its box, and of the right part; and
+    // what stood in the box.
+    fn turned(self, mut emptied: Boxed<Formula>, right: Boxed<Formula>) -> (Formula, Formula)
+        requires parts { 1 < rank_of self }
+        ensures falls { rank_of result.0 ≤ rank_of self + rank_of self + rank_of right }
+        ensures emptied { result.1 ≡ emptied }
+    {
+        match self {
+            Formula::And(first, second) | Formula::Or(first, second) => {
+                let was = emptied.replace(Formula::And(second, right));
+                (Formula::And(first, emptied), was)
+            }
+            Formula::Not(inner) => (Formula::And(inner, right), emptied.into_inner()),
+            _ => unreachable!(),
         }
     }
 

@@ -1,6 +1,6 @@
+use crate::boxed::Boxed;
 use crate::formula::Formula;
 use crate::number::NARROW_LIMIT;
-use crate::boxed::Boxed;
 use crate::term::{Term, TermError};
 use crate::variable::{Valuation, Variable};
 use std::alloc::{AllocError, Global};
@@ -214,6 +214,19 @@ fn a_chain_may_be_deep(rt: HostRuntime) -> Result<(), Fail> {
     }
     survives(&rt, alloc, right)?;
     survives(&rt, alloc, left)?;
+    Ok(())
+}
+
+#[test]
+fn a_tree_of_any_depth_is_dropped(rt: HostRuntime) -> Result<(), Fail> {
+    let alloc = rt.alloc();
+    let mut left = Formula::True;
+    let mut right = Formula::False;
+    for _ in 0..200_000u32 {
+        left = both(alloc, left, either(alloc, Formula::True, Formula::False)?)?;
+        right = either(alloc, both(alloc, Formula::True, Formula::False)?, right)?;
+    }
+    let _both = both(alloc, left, right)?;
     Ok(())
 }
 
