@@ -1,5 +1,3 @@
-pub mod Integers
-pub mod Quotients
 pub mod SumsBelow
 pub mod RowValues
 pub mod RowsHold

@@ -1,8 +1,8 @@
 ghost use Rattle.carol_formula.specs.Bounds.{IsBelow, term_limit};
 
 use crate::{Refutation, RowStep, StepList, check, check_list};
-use carol_formula::{Formula, Term, TermError, Variable};
-use sqlite_items::Boxed;
+use carol_formula::{Boxed, Formula, Term, TermError, Variable};
+
 use std::alloc::{AllocError, Global};
 use std::test::Fail;
 
