@@ -1,5 +1,5 @@
--- How heavy a term is. Sums and multiples are no heavier than their parts, whatever cancels, and what
--- is light has no large coefficient and no large value.
+-- How heavy a term is. Sums and multiples are no heavier than their parts, whatever cancels, and
+-- what is light has no large coefficient and no large value.
 use Rattle.std.specs.Prelude.{ℕ, ◌+◌, List, [], ◌∷◌, ℤ, unsigned_abs}
 use Rattle.carol_formula.specs.Linear.{Linear}
 

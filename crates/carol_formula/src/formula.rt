@@ -32,8 +32,8 @@ enum Comparison {
     Ne,
 }
 
-// A loop, so that it takes no stack, however deep the formula is. Of two parts the left one is taken apart
-// first: its own right part goes before the right one, in the box that it leaves.
+// A loop, so that it takes no stack, however deep the formula is. Of two parts the left one is
+// taken apart first: its own right part goes before the right one, in the box that it leaves.
 impl Drop for Formula {
     fn drop(mut self) {
         loop {
@@ -80,8 +80,8 @@ impl Formula {
         }
     }
 
-    // What is left to be dropped of this left part, taken out of its box, and of the right part; and
-    // what stood in the box.
+    // What is left to be dropped of this left part, taken out of its box, and of the right part;
+    // and what stood in the box.
     fn turned(self, mut emptied: Boxed<Formula>, right: Boxed<Formula>) -> (Formula, Formula)
         requires parts { 1 < rank_of self }
         ensures falls { rank_of result.0 ≤ rank_of self + rank_of self + rank_of right }
@@ -145,16 +145,22 @@ impl Formula {
     /// The formula with a term in place of a variable. `TooWide` comes where a coefficient or a
     /// constant of the true result is not below 2^100 in absolute value.
     pub fn substitute(&self, alloc: Global, v: Variable, by: &Term) -> Result<Formula, TermError>
-        ensures ok { IfOk result (λ f. (claim_of f ≡ with_term v by.now (claim_of self.now)) × ClaimWithin term_limit (claim_of f)) }
-        ensures truth { IfOk result (λ f. (at : ℕ → ℤ) → truth (claim_of f) at ≡ truth (claim_of self.now) (set_at v (value_at by.now at) at)) }
-        ensures too_wide { result ≡ Err TermError.TooWide → ¬ ClaimWithin term_limit (with_term v by.now (claim_of self.now)) }
+        ensures ok { IfOk result (λ f. (claim_of f ≡ with_term v by.now (claim_of self.now))
+            × ClaimWithin term_limit (claim_of f)) }
+        ensures truth { IfOk result (λ f. (at : ℕ → ℤ)
+            → truth (claim_of f) at
+            ≡ truth (claim_of self.now) (set_at v (value_at by.now at) at)) }
+        ensures too_wide { result ≡ Err TermError.TooWide
+            → ¬ ClaimWithin term_limit (with_term v by.now (claim_of self.now)) }
     {
         Ok(self.replaced(alloc, v, by)?.into_inner())
     }
 
     fn replaced(&self, alloc: Global, v: Variable, by: &Term) -> Result<Boxed<Formula>, TermError>
-        ensures ok { IfOk result (λ f. (claim_of f ≡ with_term v by.now (claim_of self.now)) × ClaimWithin term_limit (claim_of f)) }
-        ensures too_wide { result ≡ Err TermError.TooWide → ¬ ClaimWithin term_limit (with_term v by.now (claim_of self.now)) }
+        ensures ok { IfOk result (λ f. (claim_of f ≡ with_term v by.now (claim_of self.now))
+            × ClaimWithin term_limit (claim_of f)) }
+        ensures too_wide { result ≡ Err TermError.TooWide
+            → ¬ ClaimWithin term_limit (with_term v by.now (claim_of self.now)) }
     {
         match self {
             Formula::True => Ok(truth_value(alloc, true)?),
@@ -179,12 +185,13 @@ impl Formula {
         }
     }
 
-    /// The formula without `Not`, with the same truth. It is to be narrow: each coefficient and constant is
-    /// below 2^90 in absolute value.
+    /// The formula without `Not`, with the same truth. It is to be narrow: each coefficient and
+    /// constant is below 2^90 in absolute value.
     pub fn negation_form(&self, alloc: Global) -> Result<Formula, AllocError>
         requires { ClaimWithin narrow_limit (claim_of self.now) }
         ensures form { IfOk result (λ f. claim_of f ≡ without_not true (claim_of self.now)) }
-        ensures truth { IfOk result (λ f. (at : ℕ → ℤ) → truth (claim_of f) at ≡ truth (claim_of self.now) at) }
+        ensures truth { IfOk result (λ f. (at : ℕ → ℤ)
+            → truth (claim_of f) at ≡ truth (claim_of self.now) at) }
         ensures no_not { IfOk result (λ f. HasNoNot (claim_of f)) }
     {
         Ok(self.signed_form(alloc, true)?.into_inner())
@@ -226,7 +233,8 @@ impl Formula {
         }
     }
 
-    /// The number of cases of a formula without `Not`. A count above 1,000,000 is answered as 1,000,001.
+    /// The number of cases of a formula without `Not`. A count above 1,000,000 is answered as
+    /// 1,000,001.
     pub fn cases(&self) -> u32
         ensures { result ≡ min (cases_of (claim_of self.now)) 1000001 }
     {
@@ -272,8 +280,8 @@ impl Formula {
     }
 }
 
-// A call that goes down a formula keeps a frame for each level. So the formulas that it makes stand behind a
-// `Boxed`, and what makes one is a function of its own.
+// A call that goes down a formula keeps a frame for each level. So the formulas that it makes stand
+// behind a `Boxed`, and what makes one is a function of its own.
 
 #[inline(never)]
 fn truth_value(alloc: Global, is_true: bool) -> Result<Boxed<Formula>, AllocError>
@@ -358,7 +366,9 @@ fn junction(
     left: Boxed<Formula>,
     right: Boxed<Formula>,
 ) -> Result<Boxed<Formula>, AllocError>
-    ensures { IfOk result (λ f. claim_of f ≡ (if is_and then claim.And (claim_of left) (claim_of right) else claim.Or (claim_of left) (claim_of right))) }
+    ensures { IfOk result (λ f. claim_of f
+        ≡ (if is_and then claim.And (claim_of left) (claim_of right)
+        else claim.Or (claim_of left) (claim_of right))) }
 {
     if is_and {
         return and(alloc, left, right);

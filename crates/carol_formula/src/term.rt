@@ -10,8 +10,8 @@ use std::alloc::{AllocError, Global};
 use std::marker::Model;
 use thiserror::Error;
 
-/// A linear term in normal form: its products by ascending variable, none with coefficient zero, and a
-/// constant. Each coefficient and the constant are below 2^100 in absolute value.
+/// A linear term in normal form: its products by ascending variable, none with coefficient zero,
+/// and a constant. Each coefficient and the constant are below 2^100 in absolute value.
 #[derive(Debug, Drop)]
 pub struct Term {
     pairs: Vec<(Variable, i128)>,
@@ -72,8 +72,11 @@ fn keep_sum(
     other: &(Variable, i128),
 ) -> Result<(), TermError>
     requires { IsBelow term_limit one.now.1 }
-    ensures ok { OnOk result ((out.new.items ≡ out.old.items ++ kept other.now.0 (one.now.1 +ℤ (by *ℤ other.now.1)) []) × IsBelow term_limit (one.now.1 +ℤ (by *ℤ other.now.1))) }
-    ensures too_wide { result ≡ Err TermError.TooWide → ¬ IsBelow term_limit (one.now.1 +ℤ (by *ℤ other.now.1)) }
+    ensures ok { OnOk result ((out.new.items
+        ≡ out.old.items ++ kept other.now.0 (one.now.1 +ℤ (by *ℤ other.now.1)) [])
+        × IsBelow term_limit (one.now.1 +ℤ (by *ℤ other.now.1))) }
+    ensures too_wide { result ≡ Err TermError.TooWide
+        → ¬ IsBelow term_limit (one.now.1 +ℤ (by *ℤ other.now.1)) }
 {
     let Some(coefficient) = fused(one.1, by, other.1) else {
         return Err(TermError::TooWide);
@@ -88,7 +91,9 @@ fn keep_product(
     by: i128,
     other: &(Variable, i128),
 ) -> Result<(), TermError>
-    ensures ok { OnOk result ((out.new.items ≡ out.old.items ++ kept other.now.0 (by *ℤ other.now.1) []) × IsBelow term_limit (by *ℤ other.now.1)) }
+    ensures ok { OnOk result ((out.new.items
+        ≡ out.old.items ++ kept other.now.0 (by *ℤ other.now.1) [])
+        × IsBelow term_limit (by *ℤ other.now.1)) }
     ensures too_wide { result ≡ Err TermError.TooWide → ¬ IsBelow term_limit (by *ℤ other.now.1) }
 {
     keep_sum(out, &(other.0, 0), by, other)
@@ -105,8 +110,10 @@ fn merged(
     requires others_ascend { AscendsFrom 0 others.now }
     requires none_zero { NoneZero ones.now }
     requires below { AllBelow term_limit ones.now }
-    ensures ok { IfOk result (λ v. (v.items ≡ normal_of (ones.now ++ times by others.now)) × AllBelow term_limit v.items) }
-    ensures too_wide { result ≡ Err TermError.TooWide → ¬ AllBelow term_limit (normal_of (ones.now ++ times by others.now)) }
+    ensures ok { IfOk result (λ v. (v.items ≡ normal_of (ones.now ++ times by others.now))
+        × AllBelow term_limit v.items) }
+    ensures too_wide { result ≡ Err TermError.TooWide
+        → ¬ AllBelow term_limit (normal_of (ones.now ++ times by others.now)) }
 {
     let mut out = Vec::new(alloc);
     let mut left = ones;
@@ -177,7 +184,8 @@ impl Term {
     // The term and `by` times another.
     fn plus(&self, by: i128, other: &Term) -> Result<Term, TermError>
         ensures ok { IfOk result (λ t. (t ≡ plus_of self.now by other.now) × IsTerm t) }
-        ensures too_wide { result ≡ Err TermError.TooWide → ¬ IsWithin term_limit (plus_of self.now by other.now) }
+        ensures too_wide { result ≡ Err TermError.TooWide
+            → ¬ IsWithin term_limit (plus_of self.now by other.now) }
     {
         let Some(rest) = fused(self.rest, by, other.rest) else {
             return Err(TermError::TooWide);
@@ -186,11 +194,14 @@ impl Term {
         Ok(Term { pairs, rest })
     }
 
-    /// The sum. `TooWide` comes where a coefficient or the constant of the true sum is not below 2^100.
+    /// The sum. `TooWide` comes where a coefficient or the constant of the true sum is not below
+    /// 2^100.
     pub fn add(&self, other: &Term) -> Result<Term, TermError>
         ensures ok { IfOk result (λ t. (t ≡ sum_of self.now other.now) × IsTerm t) }
-        ensures value { IfOk result (λ t. (f : ℕ → ℤ) → value_at t f ≡ value_at self.now f +ℤ value_at other.now f) }
-        ensures too_wide { result ≡ Err TermError.TooWide → ¬ IsWithin term_limit (sum_of self.now other.now) }
+        ensures value { IfOk result (λ t. (f : ℕ → ℤ)
+            → value_at t f ≡ value_at self.now f +ℤ value_at other.now f) }
+        ensures too_wide { result ≡ Err TermError.TooWide
+            → ¬ IsWithin term_limit (sum_of self.now other.now) }
     {
         self.plus(1, other)
     }
@@ -198,8 +209,10 @@ impl Term {
     /// The difference. `TooWide` comes as in a sum.
     pub fn sub(&self, other: &Term) -> Result<Term, TermError>
         ensures ok { IfOk result (λ t. (t ≡ difference_of self.now other.now) × IsTerm t) }
-        ensures value { IfOk result (λ t. (f : ℕ → ℤ) → value_at t f ≡ value_at self.now f -ℤ value_at other.now f) }
-        ensures too_wide { result ≡ Err TermError.TooWide → ¬ IsWithin term_limit (difference_of self.now other.now) }
+        ensures value { IfOk result (λ t. (f : ℕ → ℤ)
+            → value_at t f ≡ value_at self.now f -ℤ value_at other.now f) }
+        ensures too_wide { result ≡ Err TermError.TooWide
+            → ¬ IsWithin term_limit (difference_of self.now other.now) }
     {
         self.plus(-1, other)
     }
@@ -208,13 +221,14 @@ impl Term {
     pub fn scale(&self, by: i128) -> Result<Term, TermError>
         ensures ok { IfOk result (λ t. (t ≡ scaled by self.now) × IsTerm t) }
         ensures value { IfOk result (λ t. (f : ℕ → ℤ) → value_at t f ≡ by *ℤ value_at self.now f) }
-        ensures too_wide { result ≡ Err TermError.TooWide → ¬ IsWithin term_limit (scaled by self.now) }
+        ensures too_wide { result ≡ Err TermError.TooWide
+            → ¬ IsWithin term_limit (scaled by self.now) }
     {
         Term::constant(self.allocator(), 0).plus(by, self)
     }
 
-    /// The term divided by a number above 0 that divides each coefficient, and its constant rounded up.
-    /// Of whole numbers it is at most 0 exactly where the term is.
+    /// The term divided by a number above 0 that divides each coefficient, and its constant rounded
+    /// up. Of whole numbers it is at most 0 exactly where the term is.
     pub fn divide(&self, by: i128) -> Result<Term, AllocError>
         requires positive { pos 0 <ℤ by }
         requires exact { EachDivides (unsigned_abs by) self.now.pairs }
@@ -238,7 +252,8 @@ impl Term {
     /// constant, is below the limit in absolute value.
     pub fn value_within<L: Lookup>(&self, at: &L, limit: u128) -> Option<i128>
         requires { limit ≤ value_limit }
-        ensures { SomeIff result (FitsWithin limit self.now (L.numbers at.now)) (value_at self.now (L.numbers at.now)) }
+        ensures { SomeIff result (FitsWithin limit self.now (L.numbers at.now))
+            (value_at self.now (L.numbers at.now)) }
     {
         let mut sum = 0;
         let mut left = self.pairs();
@@ -250,8 +265,8 @@ impl Term {
         sum_within(sum, self.rest(), limit)
     }
 
-    /// The term's value. Each product, and each sum on the way from the first variable to the constant, is
-    /// to be below 2^126 in absolute value, as `fits` tells.
+    /// The term's value. Each product, and each sum on the way from the first variable to the
+    /// constant, is to be below 2^126 in absolute value, as `fits` tells.
     pub fn value<L: Lookup>(&self, at: &L) -> i128
         requires { Fits self.now (L.numbers at.now) }
         ensures { result ≡ value_at self.now (L.numbers at.now) }
@@ -316,7 +331,8 @@ impl Term {
     // The term with another in place of a variable.
     pub(crate) fn replace(&self, v: Variable, by: &Term) -> Result<Term, TermError>
         ensures ok { IfOk result (λ t. (t ≡ replaced v by.now self.now) × IsTerm t) }
-        ensures too_wide { result ≡ Err TermError.TooWide → ¬ IsWithin term_limit (replaced v by.now self.now) }
+        ensures too_wide { result ≡ Err TermError.TooWide
+            → ¬ IsWithin term_limit (replaced v by.now self.now) }
     {
         let others = self.without(v)?;
         others.plus(self.coefficient(v), by)
