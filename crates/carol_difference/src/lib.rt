@@ -4,13 +4,12 @@
 
 ghost use Rattle.std.specs.Prelude.{◌≡◌, ℕ, ◌^◌, ◌≤◌, ◌↔◌, length, IfNone, IfOk, IfSome, IsTrue, OnOk};
 ghost use Rattle.std.specs.List.{All};
-ghost use Rattle.carol_formula.specs.Linear.{AllBelow};
 ghost use Rattle.carol_difference.specs.Decision.{IsDecision};
-ghost use Rattle.carol_difference.specs.Rows.{IsDifference, IsFirstOther, IsNarrow, row_limit};
+ghost use Rattle.carol_difference.specs.Rows.{IsDifference, IsFirstOther, IsNarrow};
 
 use carol_cert_rows::StepList;
 use carol_difference_paths::{Paths, potentials_or_cycle};
-use carol_formula::{Row, Valuation, Variable};
+use carol_formula::{ROW_LIMIT, Row, Valuation};
 use std::alloc::{AllocError, Global};
 
 mod evidence;
@@ -35,8 +34,6 @@ pub enum DiffError {
     NoMemory,
 }
 
-const ROW_LIMIT: u128 = 1 << 92;
-
 /// Whether each coefficient and constant is below 2^92 in absolute value.
 pub fn are_narrow(rows: &[Row]) -> bool
     ensures { IsTrue result ↔ All IsNarrow rows.now }
@@ -44,23 +41,11 @@ pub fn are_narrow(rows: &[Row]) -> bool
     rows.iter().all(is_narrow)
 }
 
+/// Whether each coefficient and the constant of the row are below 2^92 in absolute value.
 fn is_narrow(row: &Row) -> bool
     ensures { IsTrue result ↔ IsNarrow row.now }
 {
-    are_below(row.0.pairs()) && row.0.rest().unsigned_abs() < ROW_LIMIT
-}
-
-fn are_below(pairs: &[(Variable, i128)]) -> bool
-    ensures { IsTrue result ↔ AllBelow row_limit pairs.now }
-{
-    let mut left = pairs;
-    while let Some((pair, more)) = left.split_first() {
-        if pair.1.unsigned_abs() >= ROW_LIMIT {
-            return false;
-        }
-        left = more;
-    }
-    true
+    row.0.is_within(ROW_LIMIT)
 }
 
 /// Decides whether the rows can be true together.

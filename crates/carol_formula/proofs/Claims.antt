@@ -1,6 +1,7 @@
 -- Formulas: truth after a substitution and without `Not`, and how cases are counted.
 use Rattle.std.proofs.Common.{ℕ, zero, suc, ◌+◌, ◌*◌, ◌≤◌, min, ◌≡◌, Bool, true, false, arith, refl, sym, ◌∙◌, ap, subst}
-use Rattle.std.specs.Prelude.{not, ◌&&◌, ◌||◌, ℤ, pos, negsuc, ◌+ℤ◌, neg_ℤ}
+use Rattle.std.specs.Prelude.{IsTrue, not, ◌&&◌, ◌||◌, ℤ, pos, negsuc, ◌+ℤ◌, ◌≤ℤ◌, neg_ℤ}
+use Rattle.std.proofs.lemmas.Bool.{false≢true}
 use Rattle.std.proofs.lemmas.Int.{ints}
 use Rattle.std.proofs.Math.Nat.{mul-le-mul_left, mul-le-mul_right}
 use Rattle.carol_formula.specs.Linear.{Linear, is_zero, constant_of}
@@ -9,6 +10,23 @@ use Rattle.carol_formula.specs.Claim.{Claim, True, False, Le, Eq, Ne, And, Or, N
 use Rattle.carol_formula.specs.Tree.{claim_of}
 use Rattle.carol_formula.specs.declared.formula.Formula.{Formula}
 use Rattle.carol_formula.proofs.Sums.{value_at-replaced, value_at-difference_of}
+
+-- ---- the tests
+
+pub at_most_zero : (z : ℤ) → IsTrue (is_at_most_zero z) → z ≤ℤ pos 0
+at_most_zero (pos zero) h = omega (arith, ints)
+at_most_zero (pos (suc n)) h = absurd (false≢true h)
+at_most_zero (negsuc n) h = omega (arith, ints)
+
+pub is_at_most_zero_from : (z : ℤ) → z ≤ℤ pos 0 → IsTrue (is_at_most_zero z)
+is_at_most_zero_from (pos zero) h = refl
+is_at_most_zero_from (pos (suc n)) h = absurd (omega (arith, ints))
+is_at_most_zero_from (negsuc n) h = refl
+
+pub zero_from : (z : ℤ) → IsTrue (is_zero z) → z ≡ pos 0
+zero_from (pos zero) h = refl
+zero_from (pos (suc n)) h = absurd (false≢true h)
+zero_from (negsuc n) h = absurd (false≢true h)
 
 -- ---- substitution
 
