@@ -3,3 +3,4 @@ pub mod RowValues
 pub mod RowsHold
 pub mod ClaimsHold
 pub mod Sound
+pub mod Gaps

@@ -5,7 +5,7 @@ mod checker;
 mod tree;
 
 pub use carol_cert_rows::{RowStep, StepList};
-pub use checker::{check, check_list};
+pub use checker::{check, check_list, turns, turns_list};
 pub use tree::Refutation;
 
 #[cfg(test)]
