@@ -13,8 +13,8 @@ use carol_cert_rows::{Item, Place, RowStep, leaf_closes};
 use carol_formula::{Formula, VALUE_LIMIT, Variable, is_below, sum_within};
 use std::slice;
 
-/// What a walk over a tree brings back: how many turns it has, as far as a `u32` counts, and whether
-/// a leaf is unclosed.
+/// What a walk over a tree brings back: how many turns it has, as far as a `u32` counts, and
+/// whether a leaf is unclosed.
 #[derive(Clone, Copy)]
 struct Walked {
     turns: u32,
@@ -24,8 +24,10 @@ struct Walked {
 impl Walked {
     /// Both walks together.
     fn and(self, other: Walked) -> Walked
-        ensures { result ≡ record { turns = counted (self.turns + other.turns);
-            has_gap = self.has_gap || other.has_gap } }
+        ensures { result ≡ record {
+          turns = counted (self.turns + other.turns);
+          has_gap = self.has_gap || other.has_gap;
+        } }
     {
         Walked {
             turns: self.turns.saturating_add(other.turns),
@@ -59,8 +61,8 @@ pub fn check_list(formulas: &[Formula], tree: &Refutation) -> bool
     }
 }
 
-/// How many turns the tree has: leaves that close their lists, and branches. There is an answer where
-/// each of these is right, as for `check`, and at least one leaf is unclosed.
+/// How many turns the tree has: leaves that close their lists, and branches. There is an answer
+/// where each of these is right, as for `check`, and at least one leaf is unclosed.
 pub fn turns(formula: &Formula, tree: &Refutation) -> Option<u32>
     requires { turns_of (proof_of tree.now) < 2 ^ 32 }
     ensures { SomeIff result (IsUnfinished (proof_of tree.now) (claim_of formula.now ∷ []))
@@ -76,13 +78,7 @@ pub fn turns_list(formulas: &[Formula], tree: &Refutation) -> Option<u32>
         (turns_of (proof_of tree.now)) }
 {
     match walk(&Place::root(formulas), tree) {
-        Some(walk) => {
-            if walk.has_gap {
-                Some(walk.turns)
-            } else {
-                None
-            }
-        }
+        Some(walk) => { if walk.has_gap { Some(walk.turns) } else { None } }
         None => None,
     }
 }
@@ -239,7 +235,8 @@ fn is_false(place: &Place<'_>, at: u32) -> bool
 /// The parts of the `And` with the number.
 fn parts<'a>(place: &Place<'a>, at: u32) -> Option<(Item<'a>, Item<'a>)>
     requires { IsPlace place.now }
-    ensures found { option_map (λ p. (claim_of_item p.0, claim_of_item p.1)) result ≡ parts_at (claims_at place.now) at }
+    ensures found { option_map (λ p. (claim_of_item p.0, claim_of_item p.1)) result
+        ≡ parts_at (claims_at place.now) at }
     ensures bounded { IfSome result (λ p. IsItem p.0 × IsItem p.1) }
 {
     match place.item(at) {
@@ -253,7 +250,8 @@ fn parts<'a>(place: &Place<'a>, at: u32) -> Option<(Item<'a>, Item<'a>)>
 /// The cases of the `Or` or the `Ne` with the number.
 fn sides<'a>(place: &Place<'a>, at: u32) -> Option<(Item<'a>, Item<'a>)>
     requires { IsPlace place.now }
-    ensures found { option_map (λ p. (claim_of_item p.0, claim_of_item p.1)) result ≡ sides_at (claims_at place.now) at }
+    ensures found { option_map (λ p. (claim_of_item p.0, claim_of_item p.1)) result
+        ≡ sides_at (claims_at place.now) at }
     ensures bounded { IfSome result (λ p. IsItem p.0 × IsItem p.1) }
 {
     match place.item(at) {

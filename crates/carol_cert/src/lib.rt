@@ -1,4 +1,5 @@
-//! Refutations: trees that show that a formula, or a list of formulas, is never true, and their check.
+//! Refutations: trees that show that a formula, or a list of formulas, is never true, and their
+//! check.
 #![tactic(auto)]
 
 mod checker;

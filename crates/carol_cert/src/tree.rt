@@ -4,9 +4,8 @@ ghost use Rattle.carol_cert.specs.Proof.{rank_of};
 use carol_cert_rows::StepList;
 use carol_formula::{Boxed, Variable};
 
-
-/// A tree that shows that the formulas of a list are never all true at once. The list grows and changes on
-/// the way down, and `at` is a formula's number in it, from 0.
+/// A tree that shows that the formulas of a list are never all true at once. The list grows and
+/// changes on the way down, and `at` is a formula's number in it, from 0.
 #[derive(Debug)]
 pub enum Refutation {
     /// Formula `at` is `False`.
@@ -18,14 +17,15 @@ pub enum Refutation {
         at: u32,
         rest: Boxed<Refutation>,
     },
-    /// Formula `at` is an `Or` of two cases, or a `Ne` whose term `t` has the cases `t + 1 <= 0` and
-    /// `1 - t <= 0`. On each side its case stands in its place.
+    /// Formula `at` is an `Or` of two cases, or a `Ne` whose term `t` has the cases `t + 1 <= 0`
+    /// and `1 - t <= 0`. On each side its case stands in its place.
     Split {
         at: u32,
         left: Boxed<Refutation>,
         right: Boxed<Refutation>,
     },
-    /// The variable is at most `k` on the low side and at least `k + 1` on the high side, as the last formula.
+    /// The variable is at most `k` on the low side and at least `k + 1` on the high side, as the
+    /// last formula.
     Branch {
         variable: Variable,
         k: i128,
@@ -49,8 +49,8 @@ impl Refutation {
         }
     }
 
-    /// What is left to be dropped of this left side, taken out of its box, and of the right side; and
-    /// what stood in the box.
+    /// What is left to be dropped of this left side, taken out of its box, and of the right side;
+    /// and what stood in the box.
     fn turned(
         self,
         mut emptied: Boxed<Refutation>,
@@ -91,8 +91,8 @@ fn split(at: u32, left: Boxed<Refutation>, right: Boxed<Refutation>) -> Refutati
     Refutation::Split { at, left, right }
 }
 
-/// A loop, so that it takes no stack, however deep the tree is. Of two sides the left one is taken apart
-/// first: its own right side goes before the right one, in the box that it leaves.
+/// A loop, so that it takes no stack, however deep the tree is. Of two sides the left one is taken
+/// apart first: its own right side goes before the right one, in the box that it leaves.
 impl Drop for Refutation {
     fn drop(mut self) {
         loop {
