@@ -13,8 +13,8 @@ use carol_cert_rows::{Item, Place, RowStep, leaf_closes};
 use carol_formula::{Formula, VALUE_LIMIT, Variable, is_below, sum_within};
 use std::slice;
 
-/// What a walk over a tree brings back: how many turns it has, as far as a `u32` counts, and
-/// whether a leaf is unclosed.
+// What a walk over a tree brings back: how many turns it has, as far as a `u32` counts, and
+// whether a leaf is unclosed.
 #[derive(Clone, Copy)]
 struct Walked {
     turns: u32,
@@ -22,7 +22,7 @@ struct Walked {
 }
 
 impl Walked {
-    /// Both walks together.
+    // Both walks together.
     fn and(self, other: Walked) -> Walked
         ensures { result ≡ record {
           turns = counted (self.turns + other.turns);
@@ -36,7 +36,7 @@ impl Walked {
     }
 }
 
-/// A turn, and no leaf that is unclosed.
+// A turn, and no leaf that is unclosed.
 const TURN: Walked = Walked {
     turns: 1,
     has_gap: false,
@@ -83,8 +83,8 @@ pub fn turns_list(formulas: &[Formula], tree: &Refutation) -> Option<u32>
     }
 }
 
-/// The walk over the tree from the list at the place, where the tree goes right. The arms are
-/// functions of their own and stay so, since a level of a deep tree then takes little of the stack.
+// The walk over the tree from the list at the place, where the tree goes right. The arms are
+// functions of their own and stay so, since a level of a deep tree then takes little of the stack.
 #[cycle(walk)]
 fn walk(place: &Place<'_>, tree: &Refutation) -> Option<Walked>
     requires { IsPlace place.now }
@@ -111,7 +111,7 @@ fn walk(place: &Place<'_>, tree: &Refutation) -> Option<Walked>
     }
 }
 
-/// The walk over the tree from the list in which the parts of an `And` stand for it.
+// The walk over the tree from the list in which the parts of an `And` stand for it.
 #[cycle(walk)]
 #[inline(never)]
 fn walk_part(place: &Place<'_>, at: u32, rest: &Refutation) -> Option<Walked>
@@ -125,7 +125,7 @@ fn walk_part(place: &Place<'_>, at: u32, rest: &Refutation) -> Option<Walked>
     }
 }
 
-/// The walks over both trees, each from the list with its case in place of an `Or` or a `Ne`.
+// The walks over both trees, each from the list with its case in place of an `Or` or a `Ne`.
 #[cycle(walk)]
 #[inline(never)]
 fn walk_split(place: &Place<'_>, at: u32, left: &Refutation, right: &Refutation) -> Option<Walked>
@@ -143,7 +143,7 @@ fn walk_split(place: &Place<'_>, at: u32, left: &Refutation, right: &Refutation)
     }
 }
 
-/// The walks over both trees, from the list with the variable at most `k`, and at least `k + 1`.
+// The walks over both trees, from the list with the variable at most `k`, and at least `k + 1`.
 #[cycle(walk)]
 #[inline(never)]
 fn walk_branch(
@@ -166,7 +166,7 @@ fn walk_branch(
     Some(walk.and(other).and(TURN))
 }
 
-/// The walk over the tree from the list with an item more.
+// The walk over the tree from the list with an item more.
 #[cycle(walk)]
 #[inline(never)]
 fn walk_more(place: &Place<'_>, item: Item<'_>, tree: &Refutation) -> Option<Walked>
@@ -179,7 +179,7 @@ fn walk_more(place: &Place<'_>, item: Item<'_>, tree: &Refutation) -> Option<Wal
     walk(&(&*place).more(item), &*tree)
 }
 
-/// The walk over the tree from the list with an item in place of that at the number.
+// The walk over the tree from the list with an item in place of that at the number.
 #[cycle(walk)]
 #[inline(never)]
 fn walk_replaced(place: &Place<'_>, at: u32, item: Item<'_>, tree: &Refutation) -> Option<Walked>
@@ -193,7 +193,7 @@ fn walk_replaced(place: &Place<'_>, at: u32, item: Item<'_>, tree: &Refutation) 
     walk(&(&*place).replaced(at, item), &*tree)
 }
 
-/// The turn of a leaf, where the item with the number is `False`.
+// The turn of a leaf, where the item with the number is `False`.
 #[inline(never)]
 fn walk_absurd(place: &Place<'_>, at: u32) -> Option<Walked>
     requires { IsPlace place.now }
@@ -206,7 +206,7 @@ fn walk_absurd(place: &Place<'_>, at: u32) -> Option<Walked>
     }
 }
 
-/// The turn of a leaf, where its steps close the list.
+// The turn of a leaf, where its steps close the list.
 #[inline(never)]
 fn walk_rows(place: &Place<'_>, steps: &[RowStep]) -> Option<Walked>
     requires { IsPlace place.now }
@@ -220,7 +220,7 @@ fn walk_rows(place: &Place<'_>, steps: &[RowStep]) -> Option<Walked>
     }
 }
 
-/// Whether the item with the number is `False`.
+// Whether the item with the number is `False`.
 #[inline(never)]
 fn is_false(place: &Place<'_>, at: u32) -> bool
     requires { IsPlace place.now }
@@ -232,7 +232,7 @@ fn is_false(place: &Place<'_>, at: u32) -> bool
     }
 }
 
-/// The parts of the `And` with the number.
+// The parts of the `And` with the number.
 fn parts<'a>(place: &Place<'a>, at: u32) -> Option<(Item<'a>, Item<'a>)>
     requires { IsPlace place.now }
     ensures found { option_map (λ p. (claim_of_item p.0, claim_of_item p.1)) result
@@ -247,7 +247,7 @@ fn parts<'a>(place: &Place<'a>, at: u32) -> Option<(Item<'a>, Item<'a>)>
     }
 }
 
-/// The cases of the `Or` or the `Ne` with the number.
+// The cases of the `Or` or the `Ne` with the number.
 fn sides<'a>(place: &Place<'a>, at: u32) -> Option<(Item<'a>, Item<'a>)>
     requires { IsPlace place.now }
     ensures found { option_map (λ p. (claim_of_item p.0, claim_of_item p.1)) result

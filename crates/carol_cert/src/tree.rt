@@ -39,7 +39,7 @@ pub enum Refutation {
 }
 
 impl Refutation {
-    /// The tree has trees as its parts.
+    // The tree has trees as its parts.
     fn has_parts(&self) -> bool
         ensures { IsTrue result ↔ (1 < rank_of self.now) }
     {
@@ -49,8 +49,8 @@ impl Refutation {
         }
     }
 
-    /// What is left to be dropped of this left side, taken out of its box, and of the right side;
-    /// and what stood in the box.
+    // What is left to be dropped of this left side, taken out of its box, and of the right side;
+    // and what stood in the box.
     fn turned(
         self,
         mut emptied: Boxed<Refutation>,
@@ -84,15 +84,15 @@ impl Refutation {
     }
 }
 
-/// Two sides.
+// Two sides.
 fn split(at: u32, left: Boxed<Refutation>, right: Boxed<Refutation>) -> Refutation
     ensures { result ≡ Refutation.Split at left right }
 {
     Refutation::Split { at, left, right }
 }
 
-/// A loop, so that it takes no stack, however deep the tree is. Of two sides the left one is taken
-/// apart first: its own right side goes before the right one, in the box that it leaves.
+// A loop, so that it takes no stack, however deep the tree is. Of two sides the left one is taken
+// apart first: its own right side goes before the right one, in the box that it leaves.
 impl Drop for Refutation {
     fn drop(mut self) {
         loop {

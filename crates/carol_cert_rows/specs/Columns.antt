@@ -1,5 +1,5 @@
--- One column of the rows that steps make: the coefficients of one variable, or the constants. Each of its
--- numbers is made of earlier ones of the same column.
+-- One column of the rows that steps make: the coefficients of one variable, or the constants. Each
+-- of its numbers is made of earlier ones of the same column.
 use Rattle.std.specs.Prelude.{ℕ, ◌≡◌, ◌<◌, List, [], ◌∷◌, ◌++◌, length, slice_get, slice_index_or, ℤ, pos, ◌+ℤ◌, ◌*ℤ◌, ◌≤ℤ◌, ◌<ℤ◌, neg_ℤ, unsigned_abs}
 use Rattle.carol_formula.specs.Bounds.{IsBelow, value_limit}
 use Rattle.carol_formula.specs.Claim.{Claim}

@@ -41,8 +41,8 @@ pub fn sum_of_multiples(m: i128, x: i128, n: i128, y: i128) -> Option<i128>
     sum_within(first, second, VALUE_LIMIT)
 }
 
-/// The number divided: a coefficient where nothing is left, and the constant rounded up, since on the right
-/// of its row it is rounded down.
+/// The number divided: a coefficient where nothing is left, and the constant rounded up, since on
+/// the right of its row it is rounded down.
 pub fn quotient(column: &Column, number: i128, divisor: i128) -> Option<i128>
     requires small { IsBelow value_limit number }
     requires positive { pos 0 <ℤ divisor }

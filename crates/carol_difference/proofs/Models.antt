@@ -40,7 +40,7 @@ number_at-other v w number (p ∷ ps) apart = grind (arith, nat_tests, number_at
 -- ---- the numbers of a row
 
 unit_mass : (c : ℤ) → IsUnit c → unsigned_abs c ≡ 1
-unit_mass c unit = elim unit [ | inl one ↦ ap unsigned_abs one | inr minus_one ↦ ap unsigned_abs minus_one ]
+unit_mass c unit = elim unit [ inl one ↦ ap unsigned_abs one | inr minus_one ↦ ap unsigned_abs minus_one ]
 
 opposite_mass : (c d : ℤ) → AreOpposite c d → unsigned_abs c + unsigned_abs d ≡ 2
 opposite_mass c d opposite =

@@ -1,5 +1,5 @@
-//! A decision procedure for rows of differences, whose every answer carries its evidence: a valuation that makes all rows
-//! true, or steps that refute them.
+//! A decision procedure for rows of differences, whose every answer carries its evidence: a
+//! valuation that makes all rows true, or steps that refute them.
 #![tactic(auto)]
 
 ghost use Rattle.std.specs.Prelude.{◌≡◌, ℕ, ◌^◌, ◌≤◌, ◌↔◌, length, IfNone, IfOk, IfSome, IsTrue, OnOk};
@@ -28,7 +28,8 @@ pub enum DiffAnswer {
 /// Why there is no answer.
 #[derive(Clone, Copy, Debug, PartialEq, Eq)]
 pub enum DiffError {
-    /// This row is the first with more than two variables, a coefficient other than 1 and -1, or two equal coefficients.
+    /// This row is the first with more than two variables, a coefficient other than 1 and -1, or
+    /// two equal coefficients.
     NotDifference(u32),
     /// Memory ran out.
     NoMemory,
@@ -41,7 +42,7 @@ pub fn are_narrow(rows: &[Row]) -> bool
     rows.iter().all(is_narrow)
 }
 
-/// Whether each coefficient and the constant of the row are below 2^92 in absolute value.
+// Whether each coefficient and the constant of the row are below 2^92 in absolute value.
 fn is_narrow(row: &Row) -> bool
     ensures { IsTrue result ↔ IsNarrow row.now }
 {
@@ -55,7 +56,8 @@ pub fn decide_difference(alloc: Global, rows: &[Row]) -> Result<DiffAnswer, Diff
 
     ensures decided { IfOk result (IsDecision rows.now) }
     ensures differences { OnOk result (All IsDifference rows.now) }
-    ensures not_difference { (i : ℕ) → (result ≡ Err (DiffError.NotDifference i)) ↔ IsFirstOther rows.now i }
+    ensures not_difference { (i : ℕ) → (result ≡ Err (DiffError.NotDifference i))
+        ↔ IsFirstOther rows.now i }
 {
     if let Some(number) = first_other(rows) {
         return Err(DiffError::NotDifference(number));
@@ -66,7 +68,7 @@ pub fn decide_difference(alloc: Global, rows: &[Row]) -> Result<DiffAnswer, Diff
     }
 }
 
-/// The first row that is no row of differences.
+// The first row that is no row of differences.
 fn first_other(rows: &[Row]) -> Option<u32>
     requires { length rows.now ≤ 2 ^ 29 }
 
@@ -81,7 +83,7 @@ fn first_other(rows: &[Row]) -> Option<u32>
     None
 }
 
-/// The answer for rows of differences.
+// The answer for rows of differences.
 fn decided(alloc: Global, rows: &[Row]) -> Result<DiffAnswer, AllocError>
     requires count { length rows.now ≤ 2 ^ 29 }
     requires narrow { All IsNarrow rows.now }
