@@ -8,7 +8,8 @@ use Rattle.std.proofs.lemmas.Option.{get_or_from_slice_get, slice_get_within}
 use Rattle.carol_formula.specs.Linear.{Linear, times, is_zero}
 use Rattle.carol_formula.specs.Value.{sum_at, value_at}
 use Rattle.carol_formula.specs.Claim.{Claim, Ne, And, Or, truth, is_at_most_zero}
-use Rattle.carol_cert.proofs.Integers.{one-mul, minus_one-mul, mul_assoc}
+use Rattle.carol_formula.proofs.Claims.{is_at_most_zero_from}
+use Rattle.carol_formula.proofs.Integers.{one-mul, minus_one-mul, mul_assoc}
 use Rattle.carol_cert_rows.specs.Cases.{below_zero, above_zero, at_most_number, at_least_number}
 
 -- the claim is true
@@ -35,21 +36,6 @@ pub true_replaced : (f : ℕ → ℤ) (claims : List Claim) (at : ℕ) (claim : 
 true_replaced f claims at claim hold h = All-set (IsTrueAt f) claims at claim h hold
 
 -- ---- tests on whole numbers
-
-pub at_most_zero : (z : ℤ) → IsTrue (is_at_most_zero z) → z ≤ℤ pos 0
-at_most_zero (pos zero) h = omega (arith, ints)
-at_most_zero (pos (suc n)) h = absurd (false≢true h)
-at_most_zero (negsuc n) h = omega (arith, ints)
-
-is_at_most_zero_from : (z : ℤ) → z ≤ℤ pos 0 → IsTrue (is_at_most_zero z)
-is_at_most_zero_from (pos zero) h = refl
-is_at_most_zero_from (pos (suc n)) h = absurd (omega (arith, ints))
-is_at_most_zero_from (negsuc n) h = refl
-
-pub zero_from : (z : ℤ) → IsTrue (is_zero z) → z ≡ pos 0
-zero_from (pos zero) h = refl
-zero_from (pos (suc n)) h = absurd (false≢true h)
-zero_from (negsuc n) h = absurd (false≢true h)
 
 not_zero : (z : ℤ) → IsTrue (not (is_zero z)) → (z ≤ℤ negsuc 0) ⊎ (pos 1 ≤ℤ z)
 not_zero (pos zero) h = absurd (false≢true h)

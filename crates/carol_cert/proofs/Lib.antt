@@ -1,7 +1,6 @@
-pub mod Integers
-pub mod Quotients
 pub mod SumsBelow
 pub mod RowValues
 pub mod RowsHold
 pub mod ClaimsHold
 pub mod Sound
+pub mod Gaps

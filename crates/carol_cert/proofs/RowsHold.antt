@@ -11,7 +11,8 @@ use Rattle.carol_cert_rows.specs.declared.step.RowStep.TheVariants.{Given, Rever
 use Rattle.carol_cert_rows.specs.Steps.{IsRow, IsEquation, term_of, row_at, made, IsAllowed, rows_made, AreAllowed, Closes}
 use Rattle.carol_cert.proofs.SumsBelow.{top, sum_below-zero}
 use Rattle.carol_cert.proofs.RowValues.{Holds, row_value-row_of, row_value-negated, holds-combined, holds-quotient, absurd_fails}
-use Rattle.carol_cert.proofs.ClaimsHold.{IsTrueAt, AreTrueAt, true_at, at_most_zero, zero_from}
+use Rattle.carol_formula.proofs.Claims.{at_most_zero, zero_from}
+use Rattle.carol_cert.proofs.ClaimsHold.{IsTrueAt, AreTrueAt, true_at}
 
 -- ---- lists of rows
 

@@ -6,7 +6,7 @@ use Rattle.std.proofs.lemmas.Bool.{cases_lt, eq-eqb, ne_eqb}
 use Rattle.std.proofs.Math.IntN.{zero-*ℤ, *ℤ-zero}
 use Rattle.carol_formula.specs.Linear.{coefficient_of}
 use Rattle.carol_formula.specs.Value.{sum_at}
-use Rattle.carol_cert.proofs.Integers.{add-mul, mul-add}
+use Rattle.carol_formula.proofs.Integers.{add-mul, mul-add}
 
 abbrev pub sum_below : ℕ → (ℕ → ℤ) → ℤ
 sum_below zero g = pos 0

@@ -1,2 +1,4 @@
 pub mod Proof
 pub mod Refutes
+pub mod Counts
+pub mod Walked

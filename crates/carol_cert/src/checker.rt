@@ -1,18 +1,46 @@
-ghost use Rattle.std.specs.Prelude.{◌≡◌, ◌↔◌, ◌<◌, [], ◌∷◌, ◌++◌, length, map, slice_get, slice_set, IsTrue, IfSome};
+ghost use Rattle.std.specs.Prelude.{◌≡◌, ◌↔◌, ◌<◌, ◌+◌, ◌^◌, ◌||◌, SomeIff, [], ◌∷◌, ◌++◌, length, map, slice_get, slice_set, IsTrue, IfSome};
 ghost use Rattle.std.specs.Option.{option_map};
 ghost use Rattle.carol_formula.specs.Claim.{Claim};
 ghost use Rattle.carol_formula.specs.Tree.{claim_of};
 ghost use Rattle.carol_cert_rows.specs.Place.{claims_at, claim_of_item, IsItem, IsPlace};
-ghost use Rattle.carol_cert.specs.Proof.{Part, Split, Branch, proof_of};
+ghost use Rattle.carol_cert.specs.Proof.{Absurd, Part, Split, Branch, Rows, proof_of};
 ghost use Rattle.carol_cert.specs.Refutes.{parts_at, sides_at, Refutes, IsNeverTrue, AreNeverTrue};
+ghost use Rattle.carol_cert.specs.Counts.{turns_of, GoesRight, IsUnfinished};
+ghost use Rattle.carol_cert.specs.Walked.{counted, walked};
 
 use crate::tree::Refutation;
-use carol_cert_rows::{Item, Place, leaf_closes};
-use carol_formula::{Formula, Variable};
+use carol_cert_rows::{Item, Place, RowStep, leaf_closes};
+use carol_formula::{Formula, VALUE_LIMIT, Variable, is_below, sum_within};
 use std::slice;
 
-/// Each `k` of a branch, and the number after it, is below this in absolute value.
-const LIMIT: i128 = 1 << 126;
+// What a walk over a tree brings back: how many turns it has, as far as a `u32` counts, and
+// whether a leaf is unclosed.
+#[derive(Clone, Copy)]
+struct Walked {
+    turns: u32,
+    has_gap: bool,
+}
+
+impl Walked {
+    // Both walks together.
+    fn and(self, other: Walked) -> Walked
+        ensures { result ≡ record {
+          turns = counted (self.turns + other.turns);
+          has_gap = self.has_gap || other.has_gap;
+        } }
+    {
+        Walked {
+            turns: self.turns.saturating_add(other.turns),
+            has_gap: self.has_gap || other.has_gap,
+        }
+    }
+}
+
+// A turn, and no leaf that is unclosed.
+const TURN: Walked = Walked {
+    turns: 1,
+    has_gap: false,
+};
 
 /// Whether the tree refutes the formula. If it does, the formula is true under no valuation.
 pub fn check(formula: &Formula, tree: &Refutation) -> bool
@@ -27,106 +55,172 @@ pub fn check_list(formulas: &[Formula], tree: &Refutation) -> bool
     ensures exact { IsTrue result ↔ Refutes (proof_of tree.now) (map claim_of formulas.now) }
     ensures sound { IsTrue result → AreNeverTrue (map claim_of formulas.now) }
 {
-    refutes(&Place::root(formulas), tree)
+    match walk(&Place::root(formulas), tree) {
+        Some(walk) => !walk.has_gap,
+        None => false,
+    }
 }
 
-/// Whether the tree refutes the list at the place. The arms are functions of their own and stay so, since a
-/// level of a deep tree then takes little of the stack.
-#[cycle(refutes)]
-fn refutes(place: &Place<'_>, tree: &Refutation) -> bool
+/// How many turns the tree has: leaves that close their lists, and branches. There is an answer
+/// where each of these is right, as for `check`, and at least one leaf is unclosed.
+pub fn turns(formula: &Formula, tree: &Refutation) -> Option<u32>
+    requires { turns_of (proof_of tree.now) < 2 ^ 32 }
+    ensures { SomeIff result (IsUnfinished (proof_of tree.now) (claim_of formula.now ∷ []))
+        (turns_of (proof_of tree.now)) }
+{
+    turns_list(slice::from_ref(formula), tree)
+}
+
+/// How many turns the tree has, from the list of formulas.
+pub fn turns_list(formulas: &[Formula], tree: &Refutation) -> Option<u32>
+    requires { turns_of (proof_of tree.now) < 2 ^ 32 }
+    ensures { SomeIff result (IsUnfinished (proof_of tree.now) (map claim_of formulas.now))
+        (turns_of (proof_of tree.now)) }
+{
+    match walk(&Place::root(formulas), tree) {
+        Some(walk) => { if walk.has_gap { Some(walk.turns) } else { None } }
+        None => None,
+    }
+}
+
+// The walk over the tree from the list at the place, where the tree goes right. The arms are
+// functions of their own and stay so, since a level of a deep tree then takes little of the stack.
+#[cycle(walk)]
+fn walk(place: &Place<'_>, tree: &Refutation) -> Option<Walked>
     requires { IsPlace place.now }
-    ensures { IsTrue result ↔ Refutes (proof_of tree.now) (claims_at place.now) }
+    ensures { SomeIff result (GoesRight (proof_of tree.now) (claims_at place.now))
+        (walked (proof_of tree.now)) }
 {
     match tree {
-        Refutation::Absurd { at } => is_false(&*place, *at),
-        Refutation::Part { at, rest } => part_refutes(&*place, *at, rest.get()),
+        Refutation::Absurd { at } => walk_absurd(&*place, *at),
+        Refutation::Part { at, rest } => walk_part(&*place, *at, rest.get()),
         Refutation::Split { at, left, right } => {
-            split_refutes(&*place, *at, left.get(), right.get())
+            walk_split(&*place, *at, left.get(), right.get())
         }
         Refutation::Branch {
             variable,
             k,
             low,
             high,
-        } => branch_refutes(&*place, variable, *k, low.get(), high.get()),
-        Refutation::Rows(steps) => leaf_closes(&*place, steps.as_slice()),
-        Refutation::Unclosed => false,
+        } => walk_branch(&*place, variable, *k, low.get(), high.get()),
+        Refutation::Rows(steps) => walk_rows(&*place, steps.as_slice()),
+        Refutation::Unclosed => Some(Walked {
+            turns: 0,
+            has_gap: true,
+        }),
     }
 }
 
-/// Whether the tree refutes the list in which the parts of an `And` stand for it.
-#[cycle(refutes)]
+// The walk over the tree from the list in which the parts of an `And` stand for it.
+#[cycle(walk)]
 #[inline(never)]
-fn part_refutes(place: &Place<'_>, at: u32, rest: &Refutation) -> bool
+fn walk_part(place: &Place<'_>, at: u32, rest: &Refutation) -> Option<Walked>
     requires { IsPlace place.now }
-    ensures { IsTrue result ↔ Refutes (Part at (proof_of rest.now)) (claims_at place.now) }
+    ensures { SomeIff result (GoesRight (Part at (proof_of rest.now)) (claims_at place.now))
+        (walked (Part at (proof_of rest.now))) }
 {
     match parts(&*place, at) {
-        Some((left, right)) => more_refutes(&(&*place).replaced(at, left), right, &*rest),
-        None => false,
+        Some((left, right)) => walk_more(&(&*place).replaced(at, left), right, &*rest),
+        None => None,
     }
 }
 
-/// Whether each tree refutes the list with its case in place of an `Or` or a `Ne`.
-#[cycle(refutes)]
+// The walks over both trees, each from the list with its case in place of an `Or` or a `Ne`.
+#[cycle(walk)]
 #[inline(never)]
-fn split_refutes(place: &Place<'_>, at: u32, left: &Refutation, right: &Refutation) -> bool
+fn walk_split(place: &Place<'_>, at: u32, left: &Refutation, right: &Refutation) -> Option<Walked>
     requires { IsPlace place.now }
-    ensures { IsTrue result ↔ Refutes (Split at (proof_of left.now) (proof_of right.now)) (claims_at place.now) }
+    ensures { let tree = Split at (proof_of left.now) (proof_of right.now) in
+        SomeIff result (GoesRight tree (claims_at place.now)) (walked tree) }
 {
     match sides(&*place, at) {
         Some((first, second)) => {
-            replaced_refutes(&*place, at, first, &*left)
-                && replaced_refutes(&*place, at, second, &*right)
+            let walk = walk_replaced(&*place, at, first, &*left)?;
+            let other = walk_replaced(&*place, at, second, &*right)?;
+            Some(walk.and(other))
         }
-        None => false,
+        None => None,
     }
 }
 
-/// Whether the trees refute the list with the variable at most `k`, and at least `k + 1`.
-#[cycle(refutes)]
+// The walks over both trees, from the list with the variable at most `k`, and at least `k + 1`.
+#[cycle(walk)]
 #[inline(never)]
-fn branch_refutes(
+fn walk_branch(
     place: &Place<'_>,
     variable: &Variable,
     k: i128,
     low: &Refutation,
     high: &Refutation,
-) -> bool
+) -> Option<Walked>
     requires { IsPlace place.now }
-    ensures { IsTrue result ↔ Refutes (Branch variable.now k (proof_of low.now) (proof_of high.now)) (claims_at place.now) }
+    ensures { let tree = Branch variable.now k (proof_of low.now) (proof_of high.now) in
+        SomeIff result (GoesRight tree (claims_at place.now)) (walked tree) }
 {
-    if k <= -LIMIT || k >= LIMIT - 1 {
-        return false;
+    if !is_below(k, VALUE_LIMIT) {
+        return None;
     }
-    more_refutes(&*place, Item::AtMost(&*variable, k), &*low)
-        && more_refutes(&*place, Item::AtLeast(&*variable, k + 1), &*high)
+    let next = sum_within(k, 1, VALUE_LIMIT)?;
+    let walk = walk_more(&*place, Item::AtMost(&*variable, k), &*low)?;
+    let other = walk_more(&*place, Item::AtLeast(&*variable, next), &*high)?;
+    Some(walk.and(other).and(TURN))
 }
 
-/// Whether the tree refutes the list with an item more.
-#[cycle(refutes)]
+// The walk over the tree from the list with an item more.
+#[cycle(walk)]
 #[inline(never)]
-fn more_refutes(place: &Place<'_>, item: Item<'_>, tree: &Refutation) -> bool
+fn walk_more(place: &Place<'_>, item: Item<'_>, tree: &Refutation) -> Option<Walked>
     requires right { IsPlace place.now }
     requires bounded { IsItem item }
-    ensures { IsTrue result ↔ Refutes (proof_of tree.now) (claims_at place.now ++ claim_of_item item.entry ∷ []) }
+    ensures { SomeIff result
+        (GoesRight (proof_of tree.now) (claims_at place.now ++ claim_of_item item.entry ∷ []))
+        (walked (proof_of tree.now)) }
 {
-    refutes(&(&*place).more(item), &*tree)
+    walk(&(&*place).more(item), &*tree)
 }
 
-/// Whether the tree refutes the list with an item in place of that at the number.
-#[cycle(refutes)]
+// The walk over the tree from the list with an item in place of that at the number.
+#[cycle(walk)]
 #[inline(never)]
-fn replaced_refutes(place: &Place<'_>, at: u32, item: Item<'_>, tree: &Refutation) -> bool
+fn walk_replaced(place: &Place<'_>, at: u32, item: Item<'_>, tree: &Refutation) -> Option<Walked>
     requires right { IsPlace place.now }
     requires stands { at < length (claims_at place.now) }
     requires bounded { IsItem item }
-    ensures { IsTrue result ↔ Refutes (proof_of tree.now) (slice_set (claims_at place.now) at (claim_of_item item.entry)) }
+    ensures { SomeIff result (GoesRight (proof_of tree.now)
+        (slice_set (claims_at place.now) at (claim_of_item item.entry)))
+        (walked (proof_of tree.now)) }
 {
-    refutes(&(&*place).replaced(at, item), &*tree)
+    walk(&(&*place).replaced(at, item), &*tree)
 }
 
-/// Whether the item with the number is `False`.
+// The turn of a leaf, where the item with the number is `False`.
+#[inline(never)]
+fn walk_absurd(place: &Place<'_>, at: u32) -> Option<Walked>
+    requires { IsPlace place.now }
+    ensures { SomeIff result (GoesRight (Absurd at) (claims_at place.now)) (walked (Absurd at)) }
+{
+    if is_false(place, at) {
+        Some(TURN)
+    } else {
+        None
+    }
+}
+
+// The turn of a leaf, where its steps close the list.
+#[inline(never)]
+fn walk_rows(place: &Place<'_>, steps: &[RowStep]) -> Option<Walked>
+    requires { IsPlace place.now }
+    ensures { SomeIff result (GoesRight (Rows steps.now) (claims_at place.now))
+        (walked (Rows steps.now)) }
+{
+    if leaf_closes(place, steps) {
+        Some(TURN)
+    } else {
+        None
+    }
+}
+
+// Whether the item with the number is `False`.
 #[inline(never)]
 fn is_false(place: &Place<'_>, at: u32) -> bool
     requires { IsPlace place.now }
@@ -138,10 +232,11 @@ fn is_false(place: &Place<'_>, at: u32) -> bool
     }
 }
 
-/// The parts of the `And` with the number.
+// The parts of the `And` with the number.
 fn parts<'a>(place: &Place<'a>, at: u32) -> Option<(Item<'a>, Item<'a>)>
     requires { IsPlace place.now }
-    ensures found { option_map (λ p. (claim_of_item p.0, claim_of_item p.1)) result ≡ parts_at (claims_at place.now) at }
+    ensures found { option_map (λ p. (claim_of_item p.0, claim_of_item p.1)) result
+        ≡ parts_at (claims_at place.now) at }
     ensures bounded { IfSome result (λ p. IsItem p.0 × IsItem p.1) }
 {
     match place.item(at) {
@@ -152,10 +247,11 @@ fn parts<'a>(place: &Place<'a>, at: u32) -> Option<(Item<'a>, Item<'a>)>
     }
 }
 
-/// The cases of the `Or` or the `Ne` with the number.
+// The cases of the `Or` or the `Ne` with the number.
 fn sides<'a>(place: &Place<'a>, at: u32) -> Option<(Item<'a>, Item<'a>)>
     requires { IsPlace place.now }
-    ensures found { option_map (λ p. (claim_of_item p.0, claim_of_item p.1)) result ≡ sides_at (claims_at place.now) at }
+    ensures found { option_map (λ p. (claim_of_item p.0, claim_of_item p.1)) result
+        ≡ sides_at (claims_at place.now) at }
     ensures bounded { IfSome result (λ p. IsItem p.0 × IsItem p.1) }
 {
     match place.item(at) {

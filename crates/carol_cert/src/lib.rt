@@ -1,11 +1,12 @@
-//! Refutations: trees that show that a formula, or a list of formulas, is never true, and their check.
+//! Refutations: trees that show that a formula, or a list of formulas, is never true, and their
+//! check.
 #![tactic(auto)]
 
 mod checker;
 mod tree;
 
 pub use carol_cert_rows::{RowStep, StepList};
-pub use checker::{check, check_list};
+pub use checker::{check, check_list, turns, turns_list};
 pub use tree::Refutation;
 
 #[cfg(test)]

@@ -1,8 +1,7 @@
 ghost use Rattle.carol_formula.specs.Bounds.{IsBelow, term_limit};
 
-use crate::{Refutation, RowStep, StepList, check, check_list};
-use carol_formula::{Formula, Term, TermError, Variable};
-use sqlite_items::Boxed;
+use crate::{Refutation, RowStep, StepList, check, check_list, turns};
+use carol_formula::{Boxed, Formula, Term, TermError, Variable};
 use std::alloc::{AllocError, Global};
 use std::test::Fail;
 
@@ -119,6 +118,53 @@ fn one_half_is_between_whole_numbers(rt: HostRuntime) -> Result<(), Fail> {
     assert!(rt; check_list(&formulas, &branch(alloc, low, high)?));
     assert!(rt; !check_list(&formulas, &Refutation::Absurd { at: 0 }));
     assert!(rt; !check_list(&formulas, &Refutation::Absurd { at: 2 }));
+    Ok(())
+}
+
+#[test]
+fn an_unfinished_tree_has_turns(rt: HostRuntime) -> Result<(), Fail> {
+    let alloc = rt.alloc();
+    let formula = Formula::Or(
+        Boxed::new(alloc, Formula::False)?,
+        Boxed::new(alloc, Formula::True)?,
+    );
+    let low = Boxed::new(alloc, Refutation::Unclosed)?;
+    let high = Boxed::new(alloc, Refutation::Absurd { at: 0 })?;
+    let left = Boxed::new(alloc, Refutation::Absurd { at: 0 })?;
+    let right = Boxed::new(alloc, Refutation::Unclosed)?;
+    let unfinished = Refutation::Split { at: 0, left, right };
+    assert!(rt; turns(&formula, &unfinished) == Some(1));
+    assert!(rt; !check(&formula, &unfinished));
+    let branch = Refutation::Branch {
+        variable: Variable(0),
+        k: 0,
+        low,
+        high,
+    };
+    assert!(rt; turns(&Formula::False, &branch) == Some(2));
+    assert!(rt; turns(&formula, &branch).is_none());
+    assert!(rt; turns(&Formula::False, &Refutation::Absurd { at: 0 }).is_none());
+    Ok(())
+}
+
+#[test]
+fn trees_of_any_shape_are_dropped(rt: HostRuntime) -> Result<(), Fail> {
+    let alloc = rt.alloc();
+    let mut low = Refutation::Unclosed;
+    let mut high = Refutation::Unclosed;
+    for _ in 0..200_000u32 {
+        low = branch(
+            alloc,
+            low,
+            branch(alloc, Refutation::Unclosed, Refutation::Unclosed)?,
+        )?;
+        high = branch(
+            alloc,
+            branch(alloc, Refutation::Unclosed, Refutation::Unclosed)?,
+            high,
+        )?;
+    }
+    let _both = branch(alloc, low, high)?;
     Ok(())
 }
 

@@ -9,7 +9,8 @@ use Rattle.std.proofs.lemmas.List.{map-append, length-map}
 use Rattle.carol_formula.specs.Bounds.{IsBelow, value_limit}
 use Rattle.carol_formula.specs.Linear.{coefficient_of}
 use Rattle.carol_formula.specs.Claim.{Claim}
-use Rattle.carol_cert_rows.specs.PlainRow.{PlainRow, floor_of, multiple, sum_of_rows, IsSmall, zero_row, last_row}
+use Rattle.carol_formula.specs.Division.{floor_of}
+use Rattle.carol_cert_rows.specs.PlainRow.{PlainRow, multiple, sum_of_rows, IsSmall, zero_row, last_row}
 use Rattle.carol_cert_rows.specs.Steps.{row_at, made, IsAllowed, rows_made, AreAllowed, Closes}
 use Rattle.carol_cert_rows.specs.Columns.{entry_of, number_of, last_number, number_made, IsSound, numbers_made, AreSound, Vanishes, EachVanishes, cited, CitedVanish}
 use Rattle.carol_cert_rows.specs.declared.step.RowStep.{RowStep}

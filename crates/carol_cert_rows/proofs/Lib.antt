@@ -1,7 +1,6 @@
 pub mod ColumnRows
 pub mod Gets
 pub mod Places
-pub mod Division
 pub mod Chains
 pub mod Products
 pub mod Sums

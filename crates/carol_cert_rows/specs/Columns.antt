@@ -1,9 +1,10 @@
--- One column of the rows that steps make: the coefficients of one variable, or the constants. Each of its
--- numbers is made of earlier ones of the same column.
+-- One column of the rows that steps make: the coefficients of one variable, or the constants. Each
+-- of its numbers is made of earlier ones of the same column.
 use Rattle.std.specs.Prelude.{ℕ, ◌≡◌, ◌<◌, List, [], ◌∷◌, ◌++◌, length, slice_get, slice_index_or, ℤ, pos, ◌+ℤ◌, ◌*ℤ◌, ◌≤ℤ◌, ◌<ℤ◌, neg_ℤ, unsigned_abs}
 use Rattle.carol_formula.specs.Bounds.{IsBelow, value_limit}
 use Rattle.carol_formula.specs.Claim.{Claim}
-use Rattle.carol_cert_rows.specs.PlainRow.{PlainRow, row_of, floor_of, Divides}
+use Rattle.carol_formula.specs.Division.{floor_of, ceiling_of, Divides}
+use Rattle.carol_cert_rows.specs.PlainRow.{PlainRow, row_of}
 use Rattle.carol_cert_rows.specs.Steps.{IsRow, IsEquation, term_of}
 use Rattle.carol_cert_rows.specs.declared.step.RowStep.{RowStep}
 use Rattle.carol_cert_rows.specs.declared.step.RowStep.TheVariants.{Given, Reversed, Combine, Tighten}
@@ -30,7 +31,7 @@ last_number (z ∷ y ∷ zs) = last_number (y ∷ zs)
 -- the number of a row that is divided by d
 abbrev pub divided : Column → ℕ → ℤ → ℤ
 divided (Coefficient v) d z = floor_of z d
-divided Constant d z = neg_ℤ (floor_of (neg_ℤ z) d)
+divided Constant d z = ceiling_of z d
 
 -- the column doesn't forbid to divide by d
 abbrev pub CanDivide : Column → ℕ → ℤ → Type 0

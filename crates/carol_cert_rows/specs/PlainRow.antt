@@ -1,7 +1,8 @@
 -- Rows as plain data: the claim that a sum of products and a constant is at most 0.
-use Rattle.std.specs.Prelude.{ℕ, ◌≡◌, ◌/◌, ◌%◌, List, [], ◌∷◌, ℤ, pos, negsuc, ◌+ℤ◌, ◌*ℤ◌, ◌<ℤ◌, neg_ℤ, unsigned_abs}
+use Rattle.std.specs.Prelude.{ℕ, ◌≡◌, List, [], ◌∷◌, ℤ, pos, ◌+ℤ◌, ◌*ℤ◌, ◌<ℤ◌, neg_ℤ}
 use Rattle.carol_formula.specs.Bounds.{IsBelow, value_limit}
 use Rattle.carol_formula.specs.Linear.{Linear, coefficient_of}
+use Rattle.carol_formula.specs.Division.{floor_of, ceiling_of}
 
 -- the coefficient of each variable, and the constant
 pub record PlainRow : Type 0 where
@@ -23,20 +24,11 @@ multiple m r = record { coefficient = λ v. m *ℤ r.coefficient v; rest = m *�
 abbrev pub sum_of_rows : PlainRow → PlainRow → PlainRow
 sum_of_rows r s = record { coefficient = λ v. r.coefficient v +ℤ s.coefficient v; rest = r.rest +ℤ s.rest }
 
--- the greatest whole number that is at most z / d
-abbrev pub floor_of : ℤ → ℕ → ℤ
-floor_of (pos a) d = pos (a / d)
-floor_of (negsuc a) d = negsuc (a / d)
-
 -- `t <= c`, with c the constant on the right, as `t/d <= floor(c/d)`
 abbrev pub quotient : ℕ → PlainRow → PlainRow
-quotient d r = record { coefficient = λ v. floor_of (r.coefficient v) d; rest = neg_ℤ (floor_of (neg_ℤ r.rest) d) }
+quotient d r = record { coefficient = λ v. floor_of (r.coefficient v) d; rest = ceiling_of r.rest d }
 
 -- ---- facts
-
--- d divides z
-abbrev pub Divides : ℕ → ℤ → Type 0
-Divides d z = unsigned_abs z % d ≡ 0
 
 -- each coefficient and the constant are below 2 ^ 126 in absolute value
 pub record IsSmall (r : PlainRow) : Type 0 where

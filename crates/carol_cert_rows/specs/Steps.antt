@@ -2,7 +2,8 @@
 use Rattle.std.specs.Prelude.{ℕ, ◌<◌, List, [], ◌∷◌, ◌++◌, length, Option, Some, slice_get, slice_index_or, ℤ, pos, ◌≤ℤ◌, ◌<ℤ◌, unsigned_abs}
 use Rattle.carol_formula.specs.Linear.{Linear, constant_of}
 use Rattle.carol_formula.specs.Claim.{Claim, Le, Eq}
-use Rattle.carol_cert_rows.specs.PlainRow.{PlainRow, row_of, negated, multiple, sum_of_rows, quotient, Divides, IsSmall, IsAbsurd, zero_row, last_row}
+use Rattle.carol_formula.specs.Division.{Divides}
+use Rattle.carol_cert_rows.specs.PlainRow.{PlainRow, row_of, negated, multiple, sum_of_rows, quotient, IsSmall, IsAbsurd, zero_row, last_row}
 use Rattle.carol_cert_rows.specs.declared.step.RowStep.{RowStep}
 use Rattle.carol_cert_rows.specs.declared.step.RowStep.TheVariants.{Given, Reversed, Combine, Tighten}
 

@@ -1,7 +1,6 @@
 ghost use Rattle.std.specs.Prelude.{◌≡◌, ◌<◌, ◌<ℤ◌, ◌+ℤ◌, ◌*ℤ◌, pos, neg_ℤ, unsigned_abs, [], ◌∷◌, length, slice_get, Some, IfSome, SomeIff};
 ghost use Rattle.carol_formula.specs.Bounds.{IsBelow, term_limit, value_limit};
-ghost use Rattle.carol_formula.specs.Linear.{AscendsFrom, AllBelow, coefficient_of};
-ghost use Rattle.carol_cert_rows.specs.PlainRow.{row_of, floor_of, Divides};
+ghost use Rattle.carol_cert_rows.specs.PlainRow.{row_of};
 ghost use Rattle.carol_cert_rows.specs.Steps.{IsRow, IsEquation, term_of};
 ghost use Rattle.carol_cert_rows.specs.Columns.{entry_of, number_of, last_number, divided, CanDivide};
 ghost use Rattle.carol_cert_rows.specs.Numbers.{numbers_of, AreSmall};
@@ -9,7 +8,7 @@ ghost use Rattle.carol_cert_rows.specs.Cases.{below_zero, above_zero};
 ghost use Rattle.carol_cert_rows.specs.Place.{claim_of_item, IsItem};
 
 use crate::place::Item;
-use carol_formula::{Formula, Term, Variable};
+use carol_formula::{Formula, Term, VALUE_LIMIT, Variable, product_within, sum_within};
 
 /// A column of the rows that steps make.
 #[derive(Clone, Copy)]
@@ -29,40 +28,6 @@ pub enum Numbers<'a> {
     More(i128, &'a Numbers<'a>),
 }
 
-const VALUE_LIMIT: u128 = 1 << 126;
-
-// The number, where it is below 2^126.
-fn bounded(number: i128) -> Option<i128>
-    ensures { SomeIff result (IsBelow value_limit number) number }
-{
-    if number.unsigned_abs() < VALUE_LIMIT {
-        Some(number)
-    } else {
-        None
-    }
-}
-
-// The product, where it is below 2^126.
-fn product(a: i128, b: i128) -> Option<i128>
-    ensures { SomeIff result (IsBelow value_limit (a *ℤ b)) (a *ℤ b) }
-{
-    match a.checked_mul(b) {
-        Some(number) => bounded(number),
-        None => None,
-    }
-}
-
-// The sum, where it is below 2^126.
-fn sum(a: i128, b: i128) -> Option<i128>
-    ensures value { SomeIff result (IsBelow value_limit (a +ℤ b)) (a +ℤ b) }
-    ensures small { IfSome result (IsBelow value_limit) }
-{
-    match a.checked_add(b) {
-        Some(number) => bounded(number),
-        None => None,
-    }
-}
-
 /// m times x plus n times y, where both products and the sum are below 2^126.
 pub fn sum_of_multiples(m: i128, x: i128, n: i128, y: i128) -> Option<i128>
     ensures value { SomeIff result
@@ -71,13 +36,13 @@ pub fn sum_of_multiples(m: i128, x: i128, n: i128, y: i128) -> Option<i128>
         ((m *ℤ x) +ℤ (n *ℤ y)) }
     ensures small { IfSome result (IsBelow value_limit) }
 {
-    let first = product(m, x)?;
-    let second = product(n, y)?;
-    sum(first, second)
+    let first = product_within(m, x, VALUE_LIMIT)?;
+    let second = product_within(n, y, VALUE_LIMIT)?;
+    sum_within(first, second, VALUE_LIMIT)
 }
 
-/// The number divided: a coefficient where nothing is left, and the constant rounded up, since on the right
-/// of its row it is rounded down.
+/// The number divided: a coefficient where nothing is left, and the constant rounded up, since on
+/// the right of its row it is rounded down.
 pub fn quotient(column: &Column, number: i128, divisor: i128) -> Option<i128>
     requires small { IsBelow value_limit number }
     requires positive { pos 0 <ℤ divisor }
@@ -126,30 +91,13 @@ pub fn newest(numbers: &Numbers<'_>) -> i128
     }
 }
 
-// The coefficient of a variable, and 0 where the products have none.
-fn coefficient(pairs: &[(Variable, i128)], variable: Variable) -> i128
-    requires ascends { AscendsFrom 0 pairs.now }
-    requires below { AllBelow term_limit pairs.now }
-    ensures value { result ≡ coefficient_of variable pairs.now }
-    ensures below { IsBelow term_limit result }
-{
-    let mut left = pairs;
-    while let [first, rest @ ..] = left {
-        if first.0 == variable {
-            return first.1;
-        }
-        left = rest;
-    }
-    0
-}
-
 // The number of the term in the column.
 fn term_entry(term: &Term, column: &Column) -> i128
     ensures value { result ≡ entry_of column.now (row_of term.now) }
     ensures below { IsBelow term_limit result }
 {
     match column {
-        Column::Coefficient(variable) => coefficient(term.pairs(), *variable),
+        Column::Coefficient(variable) => term.coefficient(*variable),
         Column::Constant => term.rest(),
     }
 }

@@ -12,9 +12,9 @@ use crate::place::{Item, Place};
 use crate::step::RowStep;
 use carol_formula::{Formula, Variable};
 
-/// Whether the steps close the list of formulas at the place. It takes no memory: the rows are followed
-/// column by column, and a column is a chain of numbers on the stack. It stays a call, since the check of
-/// a deep tree repeats its caller's frame.
+/// Whether the steps close the list of formulas at the place. It takes no memory: the rows are
+/// followed column by column, and a column is a chain of numbers on the stack. It stays a call,
+/// since the check of a deep tree repeats its caller's frame.
 #[inline(never)]
 pub fn leaf_closes(place: &Place<'_>, steps: &[RowStep]) -> bool
     requires { IsPlace place.now }
@@ -123,8 +123,8 @@ fn vanishes(place: &Place<'_>, steps: &[RowStep], variable: Variable) -> bool
     }
 }
 
-// The number of the last row in the column, after more steps, where each of them is sound. `before` are the
-// numbers of the rows so far, and `count` says how many they are.
+// The number of the last row in the column, after more steps, where each of them is sound. `before`
+// are the numbers of the rows so far, and `count` says how many they are.
 fn last(
     place: &Place<'_>,
     steps: &[RowStep],
@@ -167,7 +167,8 @@ fn made_number(
     requires place { IsPlace place.now }
     requires count { count ≡ length (numbers_of before.now) }
     requires small { AreSmall before.now }
-    ensures value { SomeIff result (IsSound column.now (claims_at place.now) (numbers_of before.now) step)
+    ensures value { SomeIff result
+        (IsSound column.now (claims_at place.now) (numbers_of before.now) step)
         (number_made column.now (claims_at place.now) (numbers_of before.now) step) }
     ensures small { IfSome result (IsBelow value_limit) }
 {

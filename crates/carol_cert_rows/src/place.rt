@@ -4,10 +4,11 @@ ghost use Rattle.carol_formula.specs.Tree.{claim_of};
 
 use carol_formula::{Formula, Term, Variable};
 
-/// How many items of a list have a number.
+// How many items of a list have a number.
 const ITEMS: u64 = 1 << 32;
 
-/// A formula at a place of a refutation: one that was given or a part of it, or one that the tree made.
+/// A formula at a place of a refutation: one that was given or a part of it, or one that the tree
+/// made.
 #[derive(Clone, Copy)]
 pub enum Item<'a> {
     /// A formula as it was given, or a part of one.
@@ -27,8 +28,8 @@ pub enum Item<'a> {
 pub enum Place<'a> {
     /// The formulas that were given.
     Root(&'a [Formula]),
-    /// The list before with an item more at its end. `at` is the item's number, and 2^32 for each item
-    /// beyond the numbers of a `u32`.
+    /// The list before with an item more at its end. `at` is the item's number, and 2^32 for each
+    /// item beyond the numbers of a `u32`.
     More {
         at: u64,
         item: Item<'a>,
@@ -72,7 +73,8 @@ impl<'a> Place<'a> {
         requires right { IsPlace self.now }
         requires stands { at < length (claims_at self.now) }
         requires bounded { IsItem item }
-        ensures claims { claims_at result ≡ slice_set (claims_at self.now) at (claim_of_item item.entry) }
+        ensures claims { claims_at result
+            ≡ slice_set (claims_at self.now) at (claim_of_item item.entry) }
         ensures right { IsPlace result }
     {
         Place::Replaced {

@@ -3,8 +3,8 @@ ghost use Rattle.std.specs.Prelude.{◌≡◌, [], ◌++◌, ◌∷◌, MatchOpt
 use std::alloc::{AllocError, Global};
 use std::marker::Model;
 
-/// A step that makes a row, the claim that a linear term is at most 0. Rows count from 0, in the order in
-/// which the steps make them.
+/// A step that makes a row, the claim that a linear term is at most 0. Rows count from 0, in the
+/// order in which the steps make them.
 #[derive(Clone, Copy, Debug, PartialEq, Eq)]
 pub enum RowStep {
     /// The term of formula `at`, a `Le` or an `Eq`.
@@ -13,8 +13,8 @@ pub enum RowStep {
     Reversed { at: u32 },
     /// Row `a` taken `m` times plus row `b` taken `n` times, with `m` and `n` at least 0.
     Combine { a: u32, m: i128, b: u32, n: i128 },
-    /// Row `a` divided by `d`, which is above 0 and divides each coefficient. Read as `t <= c`, the row
-    /// becomes `t/d <= floor(c/d)`.
+    /// Row `a` divided by `d`, which is above 0 and divides each coefficient. Read as `t <= c`, the
+    /// row becomes `t/d <= floor(c/d)`.
     Tighten { a: u32, d: i128 },
 }
 
@@ -54,7 +54,8 @@ impl StepList {
 
     /// Takes the last step, if there is one.
     pub fn pop(&mut self) -> Option<RowStep>
-        ensures { MatchOption result ((self.old ≡ []) × (self.new ≡ [])) (λ last. self.old ≡ self.new ++ last ∷ []) }
+        ensures { MatchOption result ((self.old ≡ []) × (self.new ≡ []))
+            (λ last. self.old ≡ self.new ++ last ∷ []) }
     {
         self.steps.pop()
     }

@@ -10,13 +10,18 @@ use Rattle.std.proofs.lemmas.Bool.{cases_eq, false≢true}
 use Rattle.std.proofs.lemmas.Bool.Decides.{nat_tests}
 use Rattle.std.proofs.lemmas.List.{get_or_default}
 use Rattle.std.proofs.lemmas.Option.{slice_get-get_or}
-use Rattle.carol_formula.specs.Claim.{truth, is_at_most_zero}
+use Rattle.carol_formula.specs.Claim.{truth}
+use Rattle.carol_formula.specs.Bounds.{AreNear, row_limit, value_limit}
+use Rattle.carol_formula.specs.Linear.{Linear}
+use Rattle.carol_formula.specs.Weight.{mass}
+use Rattle.carol_formula.proofs.Claims.{at_most_zero, is_at_most_zero_from}
+use Rattle.carol_formula.proofs.Weights.{FitsWithin-near}
 use Rattle.carol_formula.specs.Numbers.{number_at, with_number}
-use Rattle.carol_formula.specs.Value.{value_at, SumFits}
+use Rattle.carol_formula.specs.Value.{value_at, Fits}
 use Rattle.carol_formula.specs.declared.Row.{Row}
 use Rattle.carol_difference_paths.specs.Graph.{edge_at, value_in, IsWithin, Meets, IsPotential, CannotBeMet}
 use Rattle.carol_difference_paths.specs.declared.Edge.{Edge}
-use Rattle.carol_difference.specs.Rows.{AreDifference, IsDifference, IsNarrow, IsUnit, AreOpposite, row_at, claim_of_row, row_limit}
+use Rattle.carol_difference.specs.Rows.{AreDifference, IsDifference, IsNarrow, IsUnit, AreOpposite, row_at, claim_of_row}
 use Rattle.carol_difference.specs.Decision.{IsMet, CannotBeTrue}
 use Rattle.carol_difference.specs.Split.{number_of}
 use Rattle.carol_difference.specs.Evidence.{AreApart, GivesNumbers}
@@ -34,33 +39,25 @@ number_at-other v w number (p ∷ ps) apart = grind (arith, nat_tests, number_at
 
 -- ---- the numbers of a row
 
-unit_times : (c x : ℤ) → IsUnit c → unsigned_abs (c *ℤ x) ≤ unsigned_abs x
-unit_times c x unit =
-    elim unit [
-      | inl one ↦ rw one (omega (arith, ints))
-      | inr minus_one ↦ rw minus_one (omega (arith, ints))
+unit_mass : (c : ℤ) → IsUnit c → unsigned_abs c ≡ 1
+unit_mass c unit = elim unit [ inl one ↦ ap unsigned_abs one | inr minus_one ↦ ap unsigned_abs minus_one ]
+
+opposite_mass : (c d : ℤ) → AreOpposite c d → unsigned_abs c + unsigned_abs d ≡ 2
+opposite_mass c d opposite =
+    elim opposite [
+      | inl p ↦ omega (arith, ap unsigned_abs p.0, ap unsigned_abs p.1)
+      | inr p ↦ omega (arith, ap unsigned_abs p.0, ap unsigned_abs p.1)
     ]
 
-left_unit : (c d : ℤ) → AreOpposite c d → IsUnit c
-left_unit c d opposite = elim opposite [ inl p ↦ inl p.0 | inr p ↦ inr p.0 ]
-
-right_unit : (c d : ℤ) → AreOpposite c d → IsUnit d
-right_unit c d opposite = elim opposite [ inl p ↦ inr p.1 | inr p ↦ inl p.1 ]
+difference_mass : (pairs : List (ℕ × ℤ)) → AreDifference pairs → mass pairs ≤ 2
+difference_mass [] is = omega arith
+difference_mass (p ∷ []) is = omega (arith, unit_mass p.1 is)
+difference_mass (p ∷ q ∷ []) is = omega (arith, opposite_mass p.1 q.1 is)
+difference_mass (p ∷ q ∷ r ∷ ps) is = elim is [ ]
 
 -- a row of differences can be added up at numbers that are not too large
-pairs_fit : (pairs : List (ℕ × ℤ)) (rest : ℤ) (f : ℕ → ℤ) → AreDifference pairs → unsigned_abs rest ≤ row_limit → ((v : ℕ) → unsigned_abs (f v) ≤ 2 ^ 124) → SumFits (pos 0) pairs rest f
-pairs_fit [] rest f is narrow small = omega (arith, ints, narrow)
-pairs_fit (p ∷ []) rest f is narrow small =
-    let first = unit_times p.1 (f p.0) is in
-    let near = small p.0 in
-    (omega (arith, first, near), omega (arith, ints, first, near), omega (arith, ints, first, near, narrow))
-pairs_fit (p ∷ q ∷ []) rest f is narrow small =
-    let first = unit_times p.1 (f p.0) (left_unit p.1 q.1 is) in
-    let near = small p.0 in
-    let second = unit_times q.1 (f q.0) (right_unit p.1 q.1 is) in
-    let near_too = small q.0 in
-    (omega (arith, first, near), omega (arith, ints, first, near), (omega (arith, second, near_too), omega (arith, ints, first, near, second, near_too), omega (arith, ints, first, near, second, near_too, narrow)))
-pairs_fit (p ∷ q ∷ r ∷ ps) rest f is narrow small = elim is [ ]
+row_fits : (t : Linear) (f : ℕ → ℤ) → AreDifference t.pairs → unsigned_abs t.rest ≤ row_limit → AreNear (2 ^ 124) f → Fits t f
+row_fits t f is narrow near = FitsWithin-near value_limit (2 ^ 124) t f near (omega (arith, difference_mass t.pairs is, narrow))
 
 -- ---- potentials as numbers
 
@@ -94,16 +91,6 @@ node_number variables values numbers (suc k) it h =
     let at = slice_get-get_or variables k 0 below in
     ap (λ (o : Option ℕ). number_of o (number_at numbers)) at ∙ it.given k _ below at ∙ ap (λ (n : ℕ). value_in values n -ℤ value_in values 0) (add-one k)
 
-at_most_zero : (z : ℤ) → z ≤ℤ pos 0 → IsTrue (is_at_most_zero z)
-at_most_zero (pos zero) h = refl
-at_most_zero (pos (suc n)) h = absurd (omega (arith, ints, h))
-at_most_zero (negsuc n) h = refl
-
-from_at_most_zero : (z : ℤ) → IsTrue (is_at_most_zero z) → z ≤ℤ pos 0
-from_at_most_zero (pos zero) h = omega (arith, ints)
-from_at_most_zero (pos (suc n)) h = absurd (false≢true h)
-from_at_most_zero (negsuc n) h = omega (arith, ints)
-
 row_met : (variables : List ℕ) (values : List ℤ) (numbers : List (ℕ × ℤ)) (row : Row) (e : Edge) → IsEdgeOf variables row e → IsDifference row → IsNarrow row → GivesNumbers variables values (length variables) numbers → Meets (value_in values) e → IsMet (number_at numbers) row
 row_met variables values numbers row e is difference narrow it meets =
     let to = node_number variables values numbers e.to it is.to in
@@ -111,7 +98,7 @@ row_met variables values numbers row e is difference narrow it meets =
     let sum = is.split.value (number_at numbers) in
     let weight = is.weight in
     let rest : unsigned_abs row.0.rest ≤ row_limit = omega (arith, narrow.constant) in
-    (pairs_fit row.0.pairs row.0.rest (number_at numbers) difference rest it.small, at_most_zero (value_at row.0 (number_at numbers)) (omega (arith, ints, to, from, sum, weight, meets)))
+    (row_fits row.0 (number_at numbers) difference rest it.small, is_at_most_zero_from (value_at row.0 (number_at numbers)) (omega (arith, ints, to, from, sum, weight, meets)))
 
 -- the row that is read at any default
 row_read : (rows : List Row) (P : Row → Type 0) (k : ℕ) (d : Row) → k < length rows → P (row_at rows k) → P (get_or rows k d)
@@ -125,7 +112,7 @@ rows_met rows numbering variables edges values numbers graph differences narrow 
 
 edge_met : (variables : List ℕ) (f : ℕ → ℤ) (row : Row) (e : Edge) → IsEdgeOf variables row e → IsTrue (truth (claim_of_row row) f) → Meets (λ node. number_of (variable_at variables node) f) e
 edge_met variables f row e is holds =
-    let below = from_at_most_zero (value_at row.0 f) holds in
+    let below = at_most_zero (value_at row.0 f) holds in
     let sum = is.split.value f in
     let weight = is.weight in
     omega (arith, ints, below, sum, weight)

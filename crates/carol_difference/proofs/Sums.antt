@@ -15,7 +15,8 @@ use Rattle.carol_cert_rows.specs.Steps.{IsRow, term_of, row_at as made_at, made,
 use Rattle.carol_cert_rows.specs.declared.RowStep.TheVariants.{Given, Combine}
 use Rattle.carol_difference_paths.specs.Graph.{edge_at, IsWalk, walk_weight, IsNegativeCycle}
 use Rattle.carol_difference_paths.specs.declared.Edge.{Edge}
-use Rattle.carol_difference.specs.Rows.{row_at, row_limit, IsNarrow, claim_of_row, claims_of}
+use Rattle.carol_formula.specs.Bounds.{row_limit}
+use Rattle.carol_difference.specs.Rows.{row_at, IsNarrow, claim_of_row, claims_of}
 use Rattle.carol_difference.specs.Split.{unit_of}
 use Rattle.carol_difference.specs.Graph.{variable_at, IsEdgeOf, IsGraph}
 use Rattle.carol_difference.specs.Evidence.{more_steps, sum_steps}

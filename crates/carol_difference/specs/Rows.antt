@@ -1,5 +1,6 @@
 -- Rows of differences: the claim that a variable minus another and a constant is at most 0.
-use Rattle.std.specs.Prelude.{◌≡◌, ℕ, ◌<◌, ◌^◌, ◌⊎◌, List, [], ◌∷◌, length, map, slice_index_or, ℤ, pos, negsuc}
+use Rattle.std.specs.Prelude.{◌≡◌, ℕ, ◌<◌, ◌⊎◌, List, [], ◌∷◌, length, map, slice_index_or, ℤ, pos, negsuc}
+use Rattle.carol_formula.specs.Bounds.{row_limit}
 use Rattle.carol_formula.specs.Linear.{IsWithin, constant_of}
 use Rattle.carol_formula.specs.Claim.{Claim, Le}
 use Rattle.carol_formula.specs.declared.Row.{Row}
@@ -22,10 +23,7 @@ AreDifference (p ∷ q ∷ r ∷ ps) = ⊥
 abbrev pub IsDifference : Row → Type 0
 IsDifference row = AreDifference row.0.pairs
 
--- the limit of the rows' coefficients and constants
-abbrev pub row_limit : ℕ
-row_limit = 2 ^ 92
-
+-- each coefficient and the constant of the row are below the rows' limit
 abbrev pub IsNarrow : Row → Type 0
 IsNarrow row = IsWithin row_limit row.0
 

@@ -9,7 +9,8 @@ use carol_formula::Row;
 use std::alloc::{AllocError, Global};
 use std::collections::BTreeMap;
 
-/// The rows as edges between the nodes of their variables. Node 0 stands for zero, and node k + 1 for variable k.
+/// The rows as edges between the nodes of their variables. Node 0 stands for zero, and node k + 1
+/// for variable k.
 #[derive(Drop)]
 pub struct Graph {
     pub numbers: BTreeMap<u32, u32>,
@@ -23,7 +24,8 @@ pub fn graph_of(alloc: Global, rows: &[Row]) -> Result<Graph, AllocError>
     requires narrow { All IsNarrow rows.now }
     requires differences { All IsDifference rows.now }
 
-    ensures { IfOk result (λ g. IsGraph rows.now (length rows.now) g.numbers g.variables.items g.edges.items) }
+    ensures { IfOk result (λ g.
+        IsGraph rows.now (length rows.now) g.numbers g.variables.items g.edges.items) }
 {
     let mut graph = Graph {
         numbers: BTreeMap::new(alloc),
@@ -44,7 +46,8 @@ impl Graph {
 
         ensures table { OnOk result (IsTable self.new.numbers self.new.variables.items) }
         ensures grows { OnOk result (Grows self.old.variables.items self.new.variables.items) }
-        ensures node { IfOk result (λ node. (node ≤ length self.new.variables.items) × (variable_at self.new.variables.items node ≡ Some variable)) }
+        ensures node { IfOk result (λ node. (node ≤ length self.new.variables.items)
+            × (variable_at self.new.variables.items node ≡ Some variable)) }
         ensures edges { OnOk result (self.new.edges.items ≡ self.old.edges.items) }
     {
         if let Some(node) = self.numbers.get(&variable) {
@@ -63,7 +66,8 @@ impl Graph {
 
         ensures table { OnOk result (IsTable self.new.numbers self.new.variables.items) }
         ensures grows { OnOk result (Grows self.old.variables.items self.new.variables.items) }
-        ensures node { IfOk result (λ node. (node ≤ length self.new.variables.items) × (variable_at self.new.variables.items node ≡ variable)) }
+        ensures node { IfOk result (λ node. (node ≤ length self.new.variables.items)
+            × (variable_at self.new.variables.items node ≡ variable)) }
         ensures edges { OnOk result (self.new.edges.items ≡ self.old.edges.items) }
     {
         match variable {
@@ -78,9 +82,12 @@ impl Graph {
         requires narrow { All IsNarrow rows.now }
         requires differences { All IsDifference rows.now }
         requires known { number < length rows.now }
-        requires graph { IsGraph rows.now number self.old.numbers self.old.variables.items self.old.edges.items }
+        requires graph { let old = self.old in
+            IsGraph rows.now number old.numbers old.variables.items old.edges.items }
 
-        ensures { OnOk result (IsGraph rows.now (number + 1) self.new.numbers self.new.variables.items self.new.edges.items) }
+        ensures { let new = self.new in
+            OnOk result (IsGraph rows.now (number + 1) new.numbers new.variables.items
+            new.edges.items) }
     {
         let row = &rows[number];
         let Some(sides) = sides_of(row) else {

@@ -1,16 +1,15 @@
-//! A decision procedure for rows of differences, whose every answer carries its evidence: a valuation that makes all rows
-//! true, or steps that refute them.
+//! A decision procedure for rows of differences, whose every answer carries its evidence: a
+//! valuation that makes all rows true, or steps that refute them.
 #![tactic(auto)]
 
 ghost use Rattle.std.specs.Prelude.{◌≡◌, ℕ, ◌^◌, ◌≤◌, ◌↔◌, length, IfNone, IfOk, IfSome, IsTrue, OnOk};
 ghost use Rattle.std.specs.List.{All};
-ghost use Rattle.carol_formula.specs.Linear.{AllBelow};
 ghost use Rattle.carol_difference.specs.Decision.{IsDecision};
-ghost use Rattle.carol_difference.specs.Rows.{IsDifference, IsFirstOther, IsNarrow, row_limit};
+ghost use Rattle.carol_difference.specs.Rows.{IsDifference, IsFirstOther, IsNarrow};
 
 use carol_cert_rows::StepList;
 use carol_difference_paths::{Paths, potentials_or_cycle};
-use carol_formula::{Row, Valuation, Variable};
+use carol_formula::{ROW_LIMIT, Row, Valuation};
 use std::alloc::{AllocError, Global};
 
 mod evidence;
@@ -29,13 +28,12 @@ pub enum DiffAnswer {
 /// Why there is no answer.
 #[derive(Clone, Copy, Debug, PartialEq, Eq)]
 pub enum DiffError {
-    /// This row is the first with more than two variables, a coefficient other than 1 and -1, or two equal coefficients.
+    /// This row is the first with more than two variables, a coefficient other than 1 and -1, or
+    /// two equal coefficients.
     NotDifference(u32),
     /// Memory ran out.
     NoMemory,
 }
-
-const ROW_LIMIT: u128 = 1 << 92;
 
 /// Whether each coefficient and constant is below 2^92 in absolute value.
 pub fn are_narrow(rows: &[Row]) -> bool
@@ -44,23 +42,11 @@ pub fn are_narrow(rows: &[Row]) -> bool
     rows.iter().all(is_narrow)
 }
 
+// Whether each coefficient and the constant of the row are below 2^92 in absolute value.
 fn is_narrow(row: &Row) -> bool
     ensures { IsTrue result ↔ IsNarrow row.now }
 {
-    are_below(row.0.pairs()) && row.0.rest().unsigned_abs() < ROW_LIMIT
-}
-
-fn are_below(pairs: &[(Variable, i128)]) -> bool
-    ensures { IsTrue result ↔ AllBelow row_limit pairs.now }
-{
-    let mut left = pairs;
-    while let Some((pair, more)) = left.split_first() {
-        if pair.1.unsigned_abs() >= ROW_LIMIT {
-            return false;
-        }
-        left = more;
-    }
-    true
+    row.0.is_within(ROW_LIMIT)
 }
 
 /// Decides whether the rows can be true together.
@@ -70,7 +56,8 @@ pub fn decide_difference(alloc: Global, rows: &[Row]) -> Result<DiffAnswer, Diff
 
     ensures decided { IfOk result (IsDecision rows.now) }
     ensures differences { OnOk result (All IsDifference rows.now) }
-    ensures not_difference { (i : ℕ) → (result ≡ Err (DiffError.NotDifference i)) ↔ IsFirstOther rows.now i }
+    ensures not_difference { (i : ℕ) → (result ≡ Err (DiffError.NotDifference i))
+        ↔ IsFirstOther rows.now i }
 {
     if let Some(number) = first_other(rows) {
         return Err(DiffError::NotDifference(number));
@@ -81,7 +68,7 @@ pub fn decide_difference(alloc: Global, rows: &[Row]) -> Result<DiffAnswer, Diff
     }
 }
 
-/// The first row that is no row of differences.
+// The first row that is no row of differences.
 fn first_other(rows: &[Row]) -> Option<u32>
     requires { length rows.now ≤ 2 ^ 29 }
 
@@ -96,7 +83,7 @@ fn first_other(rows: &[Row]) -> Option<u32>
     None
 }
 
-/// The answer for rows of differences.
+// The answer for rows of differences.
 fn decided(alloc: Global, rows: &[Row]) -> Result<DiffAnswer, AllocError>
     requires count { length rows.now ≤ 2 ^ 29 }
     requires narrow { All IsNarrow rows.now }

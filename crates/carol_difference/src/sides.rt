@@ -4,7 +4,8 @@ ghost use Rattle.carol_difference.specs.Split.{IsSplit};
 
 use carol_formula::{Row, Variable};
 
-/// A row's variables: the one with coefficient 1 and the one with -1, either of which may be absent.
+/// A row's variables: the one with coefficient 1 and the one with -1, either of which may be
+/// absent.
 #[derive(Clone, Copy)]
 pub struct Sides {
     pub plus: Option<u32>,
@@ -13,7 +14,8 @@ pub struct Sides {
 
 /// The variables of a row, if it is a row of differences.
 pub fn sides_of(row: &Row) -> Option<Sides>
-    ensures some { IfSome result (λ s. IsDifference row.now × IsSplit row.now.0.pairs s.plus s.minus) }
+    ensures some { IfSome result (λ s. IsDifference row.now
+        × IsSplit row.now.0.pairs s.plus s.minus) }
     ensures none { IfNone result (¬ IsDifference row.now) }
 {
     match row.0.pairs() {
@@ -29,7 +31,8 @@ pub fn sides_of(row: &Row) -> Option<Sides>
 
 // The variable of a product with coefficient 1 or -1.
 fn single(one: &(Variable, i128)) -> Option<Sides>
-    ensures some { IfSome result (λ s. AreDifference (one.now ∷ []) × IsSplit (one.now ∷ []) s.plus s.minus) }
+    ensures some { IfSome result (λ s. AreDifference (one.now ∷ [])
+        × IsSplit (one.now ∷ []) s.plus s.minus) }
     ensures none { IfNone result (¬ AreDifference (one.now ∷ [])) }
 {
     let Variable(variable) = one.0;
@@ -50,7 +53,8 @@ fn single(one: &(Variable, i128)) -> Option<Sides>
 
 // The variables of two products, one with coefficient 1 and one with -1.
 fn double(one: &(Variable, i128), other: &(Variable, i128)) -> Option<Sides>
-    ensures some { IfSome result (λ s. AreDifference (one.now ∷ other.now ∷ []) × IsSplit (one.now ∷ other.now ∷ []) s.plus s.minus) }
+    ensures some { IfSome result (λ s. AreDifference (one.now ∷ other.now ∷ [])
+        × IsSplit (one.now ∷ other.now ∷ []) s.plus s.minus) }
     ensures none { IfNone result (¬ AreDifference (one.now ∷ other.now ∷ [])) }
 {
     let Variable(first) = one.0;

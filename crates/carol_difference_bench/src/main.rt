@@ -1,5 +1,5 @@
-//! Decides rows of differences of one kind: `carol_difference_bench KIND SIZE`, with KIND one of chain, cycle and grid, and SIZE
-//! the number of variables, at most 2,000.
+//! Decides rows of differences of one kind: `carol_difference_bench KIND SIZE`, with KIND one of
+//! chain, cycle and grid, and SIZE the number of variables, at most 2,000.
 #![tactic(auto)]
 
 ghost use Rattle.std.specs.Prelude.{◌^◌, ◌<◌, unsigned_abs};
@@ -54,7 +54,8 @@ fn rows_of(alloc: Global, kind: &str, size: u32) -> Result<Vec<Row>, TermError> 
     Ok(rows)
 }
 
-// Each variable is above the one before it. The rows stand from the last to the first, so that each round lowers one more.
+// Each variable is above the one before it. The rows stand from the last to the first, so that each
+// round lowers one more.
 fn chain(alloc: Global, rows: &mut Vec<Row>, size: u32) -> Result<(), TermError> {
     for high in (1..size).rev() {
         order(alloc, rows, high - 1, high, 1)?;

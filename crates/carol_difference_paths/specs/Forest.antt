@@ -1,4 +1,5 @@
--- The forest that the search grows: each entry is a walk to a node, made of its parent's walk and one more edge.
+-- The forest that the search grows: each entry is a walk to a node, made of its parent's walk and
+-- one more edge.
 use Rattle.std.specs.Prelude.{◌≡◌, ℕ, ◌+◌, ◌<◌, ◌≤◌, ◌*◌, ◌^◌, ℤ, pos, ◌+ℤ◌, ◌<ℤ◌, unsigned_abs, List, length, slice_index, slice_index_or}
 use Rattle.std.specs.List.{All}
 use Rattle.carol_difference_paths.specs.declared.Edge.{Edge}
@@ -33,7 +34,8 @@ pub record IsLatest (entries : List Entry) (node latest : ℕ) : Type 0 where
   pub known : latest < length entries
   pub its_node : (entry_at entries latest).node ≡ node
 
--- every entry is right, the totals of a node's entries fall, and `latest` has the last entry of each node
+-- every entry is right, the totals of a node's entries fall, and `latest` has the last entry of
+-- each node
 pub record IsForest (nodes : ℕ) (edges : List Edge) (entries : List Entry) (latest : List ℕ) : Type 0 where
   pub count : length latest ≡ nodes
   pub small : length entries ≤ 2 ^ 32
@@ -63,7 +65,8 @@ pub record IsDeep (nodes : ℕ) (entries : List Entry) : Type 0 where
   pub some : 0 < length entries
   pub last : (k : ℕ) → k + 1 ≡ length entries → (entry_at entries k).depth ≡ nodes
 
--- what a step leaves: the same totals, of which the fact is true; or more entries; or an entry deep enough
+-- what a step leaves: the same totals, of which the fact is true; or more entries; or an entry deep
+-- enough
 abbrev pub Leaves : ℕ → List Edge → List Entry → List Entry → List ℕ → Type 0 → Step → Type 0
 Leaves nodes edges old new latest fact Kept = IsForest nodes edges new latest × IsShallow nodes new × fact
 Leaves nodes edges old new latest fact Lowered =

@@ -1,5 +1,5 @@
 -- Numbers given to the nodes of a graph, and closed walks over its edges.
-use Rattle.std.specs.Prelude.{◌≡◌, ℕ, ◌<◌, ◌≤◌, ◌*◌, ℤ, pos, ◌+ℤ◌, ◌<ℤ◌, ◌≤ℤ◌, unsigned_abs, List, [], ◌∷◌, length, slice_index_or}
+use Rattle.std.specs.Prelude.{◌≡◌, ℕ, ◌<◌, ◌≤◌, ◌*◌, ◌^◌, ℤ, pos, ◌+ℤ◌, ◌<ℤ◌, ◌≤ℤ◌, unsigned_abs, List, [], ◌∷◌, length, slice_index_or}
 use Rattle.std.specs.List.{All}
 use Rattle.carol_difference_paths.specs.declared.Edge.{Edge}
 use Rattle.carol_difference_paths.specs.declared.Paths.{Paths}
@@ -13,6 +13,10 @@ HasEnds nodes e = (e.from < nodes) × (e.to < nodes)
 abbrev pub IsWithin : ℕ → Edge → Type 0
 IsWithin bound e = unsigned_abs e.weight ≤ bound
 
+-- the limit of the weights
+abbrev pub weight_limit : ℕ
+weight_limit = 2 ^ 92
+
 -- the number at the edge's end is at most the number at its start and the weight
 abbrev pub Meets : (ℕ → ℤ) → Edge → Type 0
 Meets value e = value e.to ≤ℤ (value e.from +ℤ e.weight)
@@ -21,7 +25,8 @@ Meets value e = value e.to ≤ℤ (value e.from +ℤ e.weight)
 abbrev pub value_in : List ℤ → ℕ → ℤ
 value_in values node = slice_index_or values node (pos 0)
 
--- one number a node, which meet every edge and stay within the nodes' number times any bound of the weights
+-- one number a node, which meet every edge and stay within the nodes' number times any bound of the
+-- weights
 pub record IsPotential (nodes : ℕ) (edges : List Edge) (values : List ℤ) : Type 0 where
   pub count : length values ≡ nodes
   pub meets : All (Meets (value_in values)) edges

@@ -1,7 +1,7 @@
 ghost use Rattle.std.specs.Prelude.{◌≡◌, List, ◌^◌, ◌<◌, ◌≤◌, [], ◌∷◌, ◌++◌, length, reverse, IfNone, IfOk, IfSome, IsNone, OnOk};
 ghost use Rattle.std.specs.List.{All};
 ghost use Rattle.carol_difference_paths.specs.declared.Edge.{Edge};
-ghost use Rattle.carol_difference_paths.specs.Graph.{HasEnds, IsNegativeCycle, IsPotential, IsWithin, Meets, edge_at};
+ghost use Rattle.carol_difference_paths.specs.Graph.{HasEnds, IsNegativeCycle, IsPotential, IsWithin, Meets, edge_at, weight_limit};
 ghost use Rattle.carol_difference_paths.specs.Forest.{IsDeep, IsForest, IsLighter, IsShallow, Leaves, total_at};
 
 use crate::Edge;
@@ -38,7 +38,8 @@ pub struct Forest {
 impl Forest {
     /// A walk of no edges to each node.
     pub fn new(alloc: Global, nodes: u32) -> Result<Forest, AllocError>
-        ensures forest { IfOk result (λ f. (edges : List Edge) → IsForest nodes edges f.entries.items f.latest.items) }
+        ensures forest { IfOk result (λ f. (edges : List Edge)
+            → IsForest nodes edges f.entries.items f.latest.items) }
         ensures shallow { IfOk result (λ f. IsShallow nodes f.entries.items) }
     {
         let mut entries = Vec::with_capacity(alloc, nodes as usize)?;
@@ -56,16 +57,19 @@ impl Forest {
         Ok(Forest { entries, latest })
     }
 
-    /// The walk through this edge to its end, where it is lighter than the latest one to that node.
+    // The walk through this edge to its end, where it is lighter than the latest one to that node.
     fn lighter(&self, nodes: u32, edges: &[Edge], number: u32) -> Option<Entry>
         requires ends { All (HasEnds nodes) edges.now }
-        requires weights { All (IsWithin (2 ^ 92)) edges.now }
+        requires weights { All (IsWithin weight_limit) edges.now }
         requires edge { number < length edges.now }
         requires forest { IsForest nodes edges.now self.now.entries.items self.now.latest.items }
         requires shallow { IsShallow nodes self.now.entries.items }
 
-        ensures none { IfNone result (Meets (total_at self.now.entries.items self.now.latest.items) (edge_at edges.now number)) }
-        ensures some { IfSome result (IsLighter nodes edges.now self.now.entries.items self.now.latest.items) }
+        ensures none { IfNone result
+            (Meets (total_at self.now.entries.items self.now.latest.items)
+            (edge_at edges.now number)) }
+        ensures some { IfSome result
+            (IsLighter nodes edges.now self.now.entries.items self.now.latest.items) }
     {
         let edge = edges[number as usize];
         let parent = self.latest[edge.from as usize];
@@ -84,13 +88,16 @@ impl Forest {
         })
     }
 
-    /// Appends a lighter walk.
+    // Appends a lighter walk.
     fn add(&mut self, nodes: u32, edges: &[Edge], entry: Entry) -> Result<(), AllocError>
         requires forest { IsForest nodes edges.now self.old.entries.items self.old.latest.items }
-        requires lighter { IsLighter nodes edges.now self.old.entries.items self.old.latest.items entry }
+        requires lighter { IsLighter nodes edges.now self.old.entries.items
+            self.old.latest.items entry }
 
-        ensures forest { OnOk result (IsForest nodes edges.now self.new.entries.items self.new.latest.items) }
-        ensures entries { OnOk result (self.new.entries.items ≡ self.old.entries.items ++ entry ∷ []) }
+        ensures forest { OnOk result
+            (IsForest nodes edges.now self.new.entries.items self.new.latest.items) }
+        ensures entries { OnOk result (self.new.entries.items
+            ≡ self.old.entries.items ++ entry ∷ []) }
     {
         let Ok(number) = u32::try_from(self.entries.len()) else {
             return Err(AllocError);
@@ -100,16 +107,21 @@ impl Forest {
         Ok(())
     }
 
-    /// Looks whether one edge makes a lighter walk to its end, and keeps that walk.
+    // Looks whether one edge makes a lighter walk to its end, and keeps that walk.
     fn relax(&mut self, nodes: u32, edges: &[Edge], number: u32) -> Result<Step, AllocError>
         requires ends { All (HasEnds nodes) edges.now }
-        requires weights { All (IsWithin (2 ^ 92)) edges.now }
+        requires weights { All (IsWithin weight_limit) edges.now }
         requires edge { number < length edges.now }
         requires forest { IsForest nodes edges.now self.old.entries.items self.old.latest.items }
         requires shallow { IsShallow nodes self.old.entries.items }
 
-        ensures kept { result ≡ Ok Step.Kept → (self.new.entries.items ≡ self.old.entries.items) × (self.new.latest.items ≡ self.old.latest.items) }
-        ensures leaves { IfOk result (Leaves nodes edges.now self.old.entries.items self.new.entries.items self.new.latest.items (Meets (total_at self.new.entries.items self.new.latest.items) (edge_at edges.now number))) }
+        ensures kept { result ≡ Ok Step.Kept → (self.new.entries.items ≡ self.old.entries.items)
+            × (self.new.latest.items ≡ self.old.latest.items) }
+        ensures leaves { IfOk result
+            (Leaves nodes edges.now self.old.entries.items self.new.entries.items
+            self.new.latest.items
+            (Meets (total_at self.new.entries.items self.new.latest.items)
+            (edge_at edges.now number))) }
     {
         let Some(entry) = self.lighter(nodes, edges, number) else {
             return Ok(Step::Kept);
@@ -126,11 +138,14 @@ impl Forest {
     pub fn round(&mut self, nodes: u32, edges: &[Edge]) -> Result<Step, AllocError>
         requires ends { All (HasEnds nodes) edges.now }
         requires count { length edges.now ≤ 2 ^ 29 }
-        requires weights { All (IsWithin (2 ^ 92)) edges.now }
+        requires weights { All (IsWithin weight_limit) edges.now }
         requires forest { IsForest nodes edges.now self.old.entries.items self.old.latest.items }
         requires shallow { IsShallow nodes self.old.entries.items }
 
-        ensures leaves { IfOk result (Leaves nodes edges.now self.old.entries.items self.new.entries.items self.new.latest.items (All (Meets (total_at self.new.entries.items self.new.latest.items)) edges.now)) }
+        ensures leaves { IfOk result
+            (Leaves nodes edges.now self.old.entries.items self.new.entries.items
+            self.new.latest.items
+            (All (Meets (total_at self.new.entries.items self.new.latest.items)) edges.now)) }
     {
         let mut is_lower = false;
         for number in 0..edges.len() as u32 {
@@ -152,7 +167,8 @@ impl Forest {
         requires ends { All (HasEnds nodes) edges.now }
         requires forest { IsForest nodes edges.now self.now.entries.items self.now.latest.items }
         requires shallow { IsShallow nodes self.now.entries.items }
-        requires meets { All (Meets (total_at self.now.entries.items self.now.latest.items)) edges.now }
+        requires meets { All (Meets (total_at self.now.entries.items self.now.latest.items))
+            edges.now }
 
         ensures { IfOk result (λ v. IsPotential nodes edges.now v.items) }
     {
@@ -163,7 +179,8 @@ impl Forest {
         Ok(values)
     }
 
-    /// The cycle on the walk of the last entry, if that walk comes to a node again. A deep one does.
+    /// The cycle on the walk of the last entry, if that walk comes to a node again. A deep one
+    /// does.
     pub fn cycle(
         &self,
         alloc: Global,

@@ -1,10 +1,10 @@
-//! Shortest paths over plain edges with whole-number weights: numbers for the nodes that meet every edge, or a cycle
-//! whose weights sum below 0, which shows that there are none.
+//! Shortest paths over plain edges with whole-number weights: numbers for the nodes that meet every
+//! edge, or a cycle whose weights sum below 0, which shows that there are none.
 #![tactic(auto)]
 
 ghost use Rattle.std.specs.Prelude.{◌≡◌, ◌^◌, ◌≤◌, length, IfOk};
 ghost use Rattle.std.specs.List.{All};
-ghost use Rattle.carol_difference_paths.specs.Graph.{HasEnds, IsAnswer, IsWithin};
+ghost use Rattle.carol_difference_paths.specs.Graph.{HasEnds, IsAnswer, IsWithin, weight_limit};
 
 use std::alloc::{AllocError, Global};
 
@@ -25,16 +25,17 @@ pub struct Edge {
 pub enum Paths {
     /// One number a node, which together meet every edge.
     Potentials(Vec<i128>),
-    /// The numbers of edges, each beginning where the one before it ends and the first where the last ends, whose weights
-    /// sum below 0.
+    /// The numbers of edges, each beginning where the one before it ends and the first where the
+    /// last ends, whose weights sum below 0.
     Cycle(Vec<u32>),
 }
 
-/// Decides whether numbers for the nodes `0..nodes` meet every edge. The only error is want of memory.
+/// Decides whether numbers for the nodes `0..nodes` meet every edge. The only error is want of
+/// memory.
 pub fn potentials_or_cycle(alloc: Global, nodes: u32, edges: &[Edge]) -> Result<Paths, AllocError>
     requires ends { All (HasEnds nodes) edges.now }
     requires count { length edges.now ≤ 2 ^ 29 }
-    requires weights { All (IsWithin (2 ^ 92)) edges.now }
+    requires weights { All (IsWithin weight_limit) edges.now }
 
     ensures { IfOk result (IsAnswer nodes edges.now) }
 {

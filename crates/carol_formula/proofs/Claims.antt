@@ -1,6 +1,7 @@
 -- Formulas: truth after a substitution and without `Not`, and how cases are counted.
 use Rattle.std.proofs.Common.{ℕ, zero, suc, ◌+◌, ◌*◌, ◌≤◌, min, ◌≡◌, Bool, true, false, arith, refl, sym, ◌∙◌, ap, subst}
-use Rattle.std.specs.Prelude.{not, ◌&&◌, ◌||◌, ℤ, pos, negsuc, ◌+ℤ◌, neg_ℤ}
+use Rattle.std.specs.Prelude.{IsTrue, not, ◌&&◌, ◌||◌, ℤ, pos, negsuc, ◌+ℤ◌, ◌≤ℤ◌, neg_ℤ}
+use Rattle.std.proofs.lemmas.Bool.{false≢true}
 use Rattle.std.proofs.lemmas.Int.{ints}
 use Rattle.std.proofs.Math.Nat.{mul-le-mul_left, mul-le-mul_right}
 use Rattle.carol_formula.specs.Linear.{Linear, is_zero, constant_of}
@@ -9,6 +10,23 @@ use Rattle.carol_formula.specs.Claim.{Claim, True, False, Le, Eq, Ne, And, Or, N
 use Rattle.carol_formula.specs.Tree.{claim_of}
 use Rattle.carol_formula.specs.declared.formula.Formula.{Formula}
 use Rattle.carol_formula.proofs.Sums.{value_at-replaced, value_at-difference_of}
+
+-- ---- the tests
+
+pub at_most_zero : (z : ℤ) → IsTrue (is_at_most_zero z) → z ≤ℤ pos 0
+at_most_zero (pos zero) h = omega (arith, ints)
+at_most_zero (pos (suc n)) h = absurd (false≢true h)
+at_most_zero (negsuc n) h = omega (arith, ints)
+
+pub is_at_most_zero_from : (z : ℤ) → z ≤ℤ pos 0 → IsTrue (is_at_most_zero z)
+is_at_most_zero_from (pos zero) h = refl
+is_at_most_zero_from (pos (suc n)) h = absurd (omega (arith, ints))
+is_at_most_zero_from (negsuc n) h = refl
+
+pub zero_from : (z : ℤ) → IsTrue (is_zero z) → z ≡ pos 0
+zero_from (pos zero) h = refl
+zero_from (pos (suc n)) h = absurd (false≢true h)
+zero_from (negsuc n) h = absurd (false≢true h)
 
 -- ---- substitution
 
@@ -60,7 +78,7 @@ signed-not : (flag b : Bool) → signed (not flag) b ≡ signed flag (not b)
 signed-not true b = refl
 signed-not false b = sym (not-not b)
 
-pub truth-without_not : (flag : Bool) (c : Claim) (f : ℕ → ℤ) → truth (without_not flag c) f ≡ signed flag (truth c f)
+truth-without_not : (flag : Bool) (c : Claim) (f : ℕ → ℤ) → truth (without_not flag c) f ≡ signed flag (truth c f)
 truth-without_not true True f = refl
 truth-without_not false True f = refl
 truth-without_not true False f = refl
@@ -77,7 +95,7 @@ truth-without_not true (Or a b) f = ap (λ x. x || truth (without_not true b) f)
 truth-without_not false (Or a b) f = ap (λ x. x && truth (without_not false b) f) (truth-without_not false a f) ∙ ap (λ y. not (truth a f) && y) (truth-without_not false b f) ∙ not-or (truth a f) (truth b f)
 truth-without_not flag (Not a) f = truth-without_not (not flag) a f ∙ signed-not flag (truth a f)
 
-pub HasNoNot-without_not : (flag : Bool) (c : Claim) → HasNoNot (without_not flag c)
+HasNoNot-without_not : (flag : Bool) (c : Claim) → HasNoNot (without_not flag c)
 HasNoNot-without_not true True = tt
 HasNoNot-without_not false True = tt
 HasNoNot-without_not true False = tt
@@ -115,11 +133,12 @@ capped m n k h i = grind (arith, mul-le-mul_left, mul-le-mul_right)
 pub capped_cases : (a b : Claim) (k : ℕ) → min (min (cases_of a) k * min (cases_of b) k) k ≡ min (cases_of a * cases_of b) k
 capped_cases a b k = capped (cases_of a) (cases_of b) k (cases-positive a) (cases-positive b)
 
-pub denial_truth : (c : Claim) (g : Formula) → claim_of g ≡ without_not true c → (f : ℕ → ℤ) → truth (claim_of g) f ≡ truth c f
-denial_truth c g h f = ap (λ d. truth d f) h ∙ truth-without_not true c f
+-- what a formula says that is the claim, or its denial, without `Not`
+pub form_truth : (flag : Bool) (c : Claim) (g : Formula) → claim_of g ≡ without_not flag c → (f : ℕ → ℤ) → truth (claim_of g) f ≡ signed flag (truth c f)
+form_truth flag c g h f = ap (λ d. truth d f) h ∙ truth-without_not flag c f
 
-pub denial_plain : (c : Claim) (g : Formula) → claim_of g ≡ without_not true c → HasNoNot (claim_of g)
-denial_plain c g h = subst HasNoNot (sym h) (HasNoNot-without_not true c)
+pub form_plain : (flag : Bool) (c : Claim) (g : Formula) → claim_of g ≡ without_not flag c → HasNoNot (claim_of g)
+form_plain flag c g h = subst HasNoNot (sym h) (HasNoNot-without_not flag c)
 
 pub capped_and : (p r s k : ℕ) (a b c : Claim) → c ≡ And a b → r ≡ min (cases_of a) k → s ≡ min (cases_of b) k → p ≡ min (r * s) k → p ≡ min (cases_of c) k
 capped_and p r s k a b c e f g h = h ∙ ap (λ m. min (m * s) k) f ∙ ap (λ n. min (min (cases_of a) k * n) k) g ∙ capped_cases a b k ∙ ap (λ d. min (cases_of d) k) (sym e)

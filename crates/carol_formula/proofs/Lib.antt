@@ -6,5 +6,7 @@ pub mod Merging
 pub mod Terms
 pub mod Summing
 pub mod Replacing
+pub mod Division
+pub mod Weights
 pub mod Claims
 pub mod Places

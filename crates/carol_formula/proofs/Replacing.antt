@@ -2,7 +2,7 @@
 use Rattle.std.proofs.Common.{ℕ, ◌+◌, ◌≡◌, ◌≢◌, List, [], ◌∷◌, ◌++◌, append-nil, length, arith, sym, ◌∙◌, ap, subst}
 use Rattle.std.specs.Prelude.{if◌then◌else◌, ℤ, ◌+ℤ◌}
 use Rattle.std.proofs.Math.IntN.{+ℤ_idl}
-use Rattle.carol_formula.specs.Bounds.{term_limit}
+use Rattle.carol_formula.specs.Bounds.{IsBelow, term_limit}
 use Rattle.carol_formula.specs.Linear.{Linear, IsTerm, AscendsFrom, NoneZero, AllBelow, coefficient_of, without, without_of}
 use Rattle.carol_formula.proofs.Orders.{by_same, other-eq}
 use Rattle.carol_formula.proofs.Products.{AscendsFrom-lower, coefficient_of-first, share}
@@ -50,13 +50,18 @@ sifted v t inside ps r h e f g = subst IsTerm (sym same) (IsTerm-without_of v t 
 -- none of the products that are passed is of the variable
 pub record Seeking (v : ℕ) (whole left : List (ℕ × ℤ)) : Type 0 where
   pub ascends : AscendsFrom 0 left
+  pub below : AllBelow term_limit left
   pub is : coefficient_of v left ≡ coefficient_of v whole
 
 pub seek_step : (v : ℕ) (whole left : List (ℕ × ℤ)) (p : ℕ × ℤ) (more : List (ℕ × ℤ)) → Seeking v whole left → left ≡ p ∷ more → p.0 ≢ v → Seeking v whole more
 seek_step v whole left p more s e n = record {
   ascends = AscendsFrom-lower 0 (p.0 + 1) more (omega arith) (subst (AscendsFrom 0) e s.ascends).1;
+  below = (subst (AllBelow term_limit) e s.below).1;
   is = sym (ap (coefficient_of v) e ∙ ap (λ b. share b p.1 +ℤ coefficient_of v more) (other-eq v p.0 (λ g. n (sym g))) ∙ +ℤ_idl (coefficient_of v more)) ∙ s.is;
 }
 
-pub seek_found : (v : ℕ) (whole left : List (ℕ × ℤ)) (p : ℕ × ℤ) (more : List (ℕ × ℤ)) → Seeking v whole left → left ≡ p ∷ more → p.0 ≡ v → p.1 ≡ coefficient_of v whole
-seek_found v whole left p more s e g = sym (ap (λ w. coefficient_of w left) (sym g) ∙ ap (coefficient_of p.0) e ∙ coefficient_of-first p more (subst (AscendsFrom 0) e s.ascends).1) ∙ s.is
+pub seek_found : (v : ℕ) (whole left : List (ℕ × ℤ)) (p : ℕ × ℤ) (more : List (ℕ × ℤ)) → Seeking v whole left → left ≡ p ∷ more → p.0 ≡ v → (p.1 ≡ coefficient_of v whole) × IsBelow term_limit p.1
+seek_found v whole left p more s e g = (found, (subst (AllBelow term_limit) e s.below).0)
+  where
+    found : p.1 ≡ coefficient_of v whole
+    found = sym (ap (λ w. coefficient_of w left) (sym g) ∙ ap (coefficient_of p.0) e ∙ coefficient_of-first p more (subst (AscendsFrom 0) e s.ascends).1) ∙ s.is

@@ -71,7 +71,8 @@ with_term v by (And a b) = And (with_term v by a) (with_term v by b)
 with_term v by (Or a b) = Or (with_term v by a) (with_term v by b)
 with_term v by (Not a) = Not (with_term v by a)
 
--- the formula, or its denial where the flag is false, without `Not`: `t <= 0` is denied by `1 - t <= 0`
+-- the formula, or its denial where the flag is false, without `Not`: `t <= 0` is denied by
+-- `1 - t <= 0`
 abbrev pub without_not : Bool → Claim → Claim
 without_not flag True = if flag then True else False
 without_not flag False = if flag then False else True
@@ -82,7 +83,8 @@ without_not flag (And a b) = if flag then And (without_not flag a) (without_not 
 without_not flag (Or a b) = if not flag then And (without_not flag a) (without_not flag b) else Or (without_not flag a) (without_not flag b)
 without_not flag (Not a) = without_not (not flag) a
 
--- the cases into which the formula splits: of an `And` each case of the one part with each of the other
+-- the cases into which the formula splits: of an `And` each case of the one part with each of the
+-- other
 abbrev pub cases_of : Claim → ℕ
 cases_of True = 1
 cases_of False = 1

@@ -15,11 +15,15 @@ value_at t f = sum_at t.pairs f +ℤ t.rest
 abbrev pub set_at : ℕ → ℤ → (ℕ → ℤ) → ℕ → ℤ
 set_at v number f w = if w == v then number else f w
 
--- each further product, and each sum with the products before it, is below 2 ^ 126; so is the whole sum
-abbrev pub SumFits : ℤ → List (ℕ × ℤ) → ℤ → (ℕ → ℤ) → Type 0
-SumFits before [] rest f = IsBelow value_limit (before +ℤ rest)
-SumFits before (p ∷ ps) rest f = IsBelow value_limit (p.1 *ℤ f p.0) × IsBelow value_limit (before +ℤ (p.1 *ℤ f p.0)) × SumFits (before +ℤ (p.1 *ℤ f p.0)) ps rest f
+-- each further product, and each sum with the products before it, is below the limit; so is the
+-- whole sum
+abbrev pub SumFits : ℕ → ℤ → List (ℕ × ℤ) → ℤ → (ℕ → ℤ) → Type 0
+SumFits limit before [] rest f = IsBelow limit (before +ℤ rest)
+SumFits limit before (p ∷ ps) rest f = IsBelow limit (p.1 *ℤ f p.0) × IsBelow limit (before +ℤ (p.1 *ℤ f p.0)) × SumFits limit (before +ℤ (p.1 *ℤ f p.0)) ps rest f
 
--- the term can be added up at f in ascending order, its constant last, below 2 ^ 126 all the way
+-- the term can be added up at f in ascending order, its constant last, below the limit all the way
+abbrev pub FitsWithin : ℕ → Linear → (ℕ → ℤ) → Type 0
+FitsWithin limit t f = SumFits limit (pos 0) t.pairs t.rest f
+
 abbrev pub Fits : Linear → (ℕ → ℤ) → Type 0
-Fits t f = SumFits (pos 0) t.pairs t.rest f
+Fits t f = FitsWithin value_limit t f

@@ -1,14 +1,14 @@
-ghost use Rattle.std.specs.Prelude.{ℕ, ℤ, ◌≡◌, ◌≤◌, ◌*◌, min, true, false, IsTrue, ◌↔◌, IfOk, pos, if◌then◌else◌};
+ghost use Rattle.std.specs.Prelude.{ℕ, ℤ, ◌≡◌, ◌≤◌, ◌<◌, ◌+◌, ◌*◌, min, true, false, not, IsTrue, ◌↔◌, IfOk, pos, if◌then◌else◌};
 ghost use Rattle.carol_formula.specs.Bounds.{term_limit, narrow_limit};
 ghost use Rattle.carol_formula.specs.Claim as claim;
 ghost use Rattle.carol_formula.specs.Claim.{truth, ClaimFits, ClaimWithin, HasNoNot, with_term, without_not, cases_of};
 ghost use Rattle.carol_formula.specs.Linear.{IsWithin, constant_of, difference_of, replaced};
-ghost use Rattle.carol_formula.specs.Tree.{claim_of};
+ghost use Rattle.carol_formula.specs.Tree.{claim_of, comparing, rank_of};
 ghost use Rattle.carol_formula.specs.Value.{value_at, set_at};
 
+use crate::boxed::Boxed;
 use crate::term::{Term, TermError};
 use crate::variable::{Lookup, Variable};
-use sqlite_items::Boxed;
 use std::alloc::{AllocError, Global};
 
 /// A formula. `Le`, `Eq` and `Ne` compare their term with 0.
@@ -24,8 +24,16 @@ pub enum Formula {
     Not(Boxed<Formula>),
 }
 
-// A part without parts of its own is let go of first, so that a chain takes no stack, on whichever side its
-// next part stands.
+// How a term is compared with 0.
+#[derive(Clone, Copy, PartialEq, Eq)]
+enum Comparison {
+    Le,
+    Eq,
+    Ne,
+}
+
+// A loop, so that it takes no stack, however deep the formula is. Of two parts the left one is
+// taken apart first: its own right part goes before the right one, in the box that it leaves.
 impl Drop for Formula {
     fn drop(mut self) {
         loop {
@@ -33,13 +41,14 @@ impl Drop for Formula {
                 Formula::True | Formula::False => return,
                 Formula::Le(_) | Formula::Eq(_) | Formula::Ne(_) => return,
                 Formula::Not(inner) => self = inner.into_inner(),
-                Formula::And(left, right) | Formula::Or(left, right) => {
-                    let left = left.into_inner();
-                    let right = right.into_inner();
-                    if right.is_comparison() {
-                        self = left;
+                Formula::And(mut left, right) | Formula::Or(mut left, right) => {
+                    if left.get().has_parts() {
+                        let first = left.replace(Formula::True);
+                        let (next, _emptied) = first.turned(left, right);
+                        self = next;
                     } else {
-                        self = right;
+                        let _leaf = left.into_inner();
+                        self = right.into_inner();
                     }
                 }
             }
@@ -61,11 +70,30 @@ fn product(a: u32, b: u32) -> u32
 }
 
 impl Formula {
-    // The formula has no parts.
-    fn is_comparison(&self) -> bool {
+    // The formula has formulas as its parts.
+    fn has_parts(&self) -> bool
+        ensures { IsTrue result ↔ (1 < rank_of self.now) }
+    {
         match self {
-            Formula::And(_, _) | Formula::Or(_, _) | Formula::Not(_) => false,
-            _ => true,
+            Formula::And(_, _) | Formula::Or(_, _) | Formula::Not(_) => true,
+            _ => false,
+        }
+    }
+
+    // What is left to be dropped of this left part, taken out of its box, and of the right part;
+    // and what stood in the box.
+    fn turned(self, mut emptied: Boxed<Formula>, right: Boxed<Formula>) -> (Formula, Formula)
+        requires parts { 1 < rank_of self }
+        ensures falls { rank_of result.0 ≤ rank_of self + rank_of self + rank_of right }
+        ensures emptied { result.1 ≡ emptied }
+    {
+        match self {
+            Formula::And(first, second) | Formula::Or(first, second) => {
+                let was = emptied.replace(Formula::And(second, right));
+                (Formula::And(first, emptied), was)
+            }
+            Formula::Not(inner) => (Formula::And(inner, right), emptied.into_inner()),
+            _ => unreachable!(),
         }
     }
 
@@ -100,40 +128,46 @@ impl Formula {
         }
     }
 
-    /// Each coefficient and constant of the formula is below 2^90 in absolute value.
-    pub fn is_narrow(&self) -> bool
-        ensures { IsTrue result ↔ ClaimWithin narrow_limit (claim_of self.now) }
+    /// Whether each coefficient and constant of the formula is below the limit in absolute value.
+    pub fn is_within(&self, limit: u128) -> bool
+        ensures { IsTrue result ↔ ClaimWithin limit (claim_of self.now) }
     {
         match self {
             Formula::True | Formula::False => true,
-            Formula::Le(term) | Formula::Eq(term) | Formula::Ne(term) => term.is_narrow(),
+            Formula::Le(term) | Formula::Eq(term) | Formula::Ne(term) => term.is_within(limit),
             Formula::And(left, right) | Formula::Or(left, right) => {
-                left.get().is_narrow() && right.get().is_narrow()
+                left.get().is_within(limit) && right.get().is_within(limit)
             }
-            Formula::Not(inner) => inner.get().is_narrow(),
+            Formula::Not(inner) => inner.get().is_within(limit),
         }
     }
 
-    /// The formula with a term in place of a variable. `TooWide` comes where a coefficient or a constant of
-    /// the true result is not below 2^100 in absolute value.
+    /// The formula with a term in place of a variable. `TooWide` comes where a coefficient or a
+    /// constant of the true result is not below 2^100 in absolute value.
     pub fn substitute(&self, alloc: Global, v: Variable, by: &Term) -> Result<Formula, TermError>
-        ensures ok { IfOk result (λ f. (claim_of f ≡ with_term v by.now (claim_of self.now)) × ClaimWithin term_limit (claim_of f)) }
-        ensures truth { IfOk result (λ f. (at : ℕ → ℤ) → truth (claim_of f) at ≡ truth (claim_of self.now) (set_at v (value_at by.now at) at)) }
-        ensures too_wide { result ≡ Err TermError.TooWide → ¬ ClaimWithin term_limit (with_term v by.now (claim_of self.now)) }
+        ensures ok { IfOk result (λ f. (claim_of f ≡ with_term v by.now (claim_of self.now))
+            × ClaimWithin term_limit (claim_of f)) }
+        ensures truth { IfOk result (λ f. (at : ℕ → ℤ)
+            → truth (claim_of f) at
+            ≡ truth (claim_of self.now) (set_at v (value_at by.now at) at)) }
+        ensures too_wide { result ≡ Err TermError.TooWide
+            → ¬ ClaimWithin term_limit (with_term v by.now (claim_of self.now)) }
     {
         Ok(self.replaced(alloc, v, by)?.into_inner())
     }
 
     fn replaced(&self, alloc: Global, v: Variable, by: &Term) -> Result<Boxed<Formula>, TermError>
-        ensures ok { IfOk result (λ f. (claim_of f ≡ with_term v by.now (claim_of self.now)) × ClaimWithin term_limit (claim_of f)) }
-        ensures too_wide { result ≡ Err TermError.TooWide → ¬ ClaimWithin term_limit (with_term v by.now (claim_of self.now)) }
+        ensures ok { IfOk result (λ f. (claim_of f ≡ with_term v by.now (claim_of self.now))
+            × ClaimWithin term_limit (claim_of f)) }
+        ensures too_wide { result ≡ Err TermError.TooWide
+            → ¬ ClaimWithin term_limit (with_term v by.now (claim_of self.now)) }
     {
         match self {
             Formula::True => Ok(truth_value(alloc, true)?),
             Formula::False => Ok(truth_value(alloc, false)?),
-            Formula::Le(term) => replaced_le(alloc, term, v, by),
-            Formula::Eq(term) => replaced_eq(alloc, term, v, by),
-            Formula::Ne(term) => replaced_ne(alloc, term, v, by),
+            Formula::Le(term) => replaced(alloc, Comparison::Le, term, v, by),
+            Formula::Eq(term) => replaced(alloc, Comparison::Eq, term, v, by),
+            Formula::Ne(term) => replaced(alloc, Comparison::Ne, term, v, by),
             Formula::And(left, right) => {
                 let left = left.get().replaced(alloc, v, by)?;
                 let right = right.get().replaced(alloc, v, by)?;
@@ -151,15 +185,27 @@ impl Formula {
         }
     }
 
-    /// The formula without `Not`, with the same truth. It is to be narrow: each coefficient and constant is
-    /// below 2^90 in absolute value.
+    /// The formula without `Not`, with the same truth. It is to be narrow: each coefficient and
+    /// constant is below 2^90 in absolute value.
     pub fn negation_form(&self, alloc: Global) -> Result<Formula, AllocError>
         requires { ClaimWithin narrow_limit (claim_of self.now) }
         ensures form { IfOk result (λ f. claim_of f ≡ without_not true (claim_of self.now)) }
-        ensures truth { IfOk result (λ f. (at : ℕ → ℤ) → truth (claim_of f) at ≡ truth (claim_of self.now) at) }
+        ensures truth { IfOk result (λ f. (at : ℕ → ℤ)
+            → truth (claim_of f) at ≡ truth (claim_of self.now) at) }
         ensures no_not { IfOk result (λ f. HasNoNot (claim_of f)) }
     {
         Ok(self.signed_form(alloc, true)?.into_inner())
+    }
+
+    /// The formula's denial without `Not`. The formula is to be narrow, as for `negation_form`.
+    pub fn denial_form(&self, alloc: Global) -> Result<Formula, AllocError>
+        requires { ClaimWithin narrow_limit (claim_of self.now) }
+        ensures form { IfOk result (λ f. claim_of f ≡ without_not false (claim_of self.now)) }
+        ensures truth { IfOk result (λ f. (at : ℕ → ℤ)
+            → truth (claim_of f) at ≡ not (truth (claim_of self.now) at)) }
+        ensures no_not { IfOk result (λ f. HasNoNot (claim_of f)) }
+    {
+        Ok(self.signed_form(alloc, false)?.into_inner())
     }
 
     // The formula, or its denial, without `Not`.
@@ -170,7 +216,7 @@ impl Formula {
         match self {
             Formula::True => truth_value(alloc, is_positive),
             Formula::False => truth_value(alloc, !is_positive),
-            Formula::Le(term) => comparison(alloc, is_positive, term),
+            Formula::Le(term) => inequality(alloc, is_positive, term),
             Formula::Eq(term) => equation(alloc, is_positive, term),
             Formula::Ne(term) => equation(alloc, !is_positive, term),
             Formula::And(left, right) => {
@@ -187,7 +233,8 @@ impl Formula {
         }
     }
 
-    /// The number of cases of a formula without `Not`. A count above 1,000,000 is answered as 1,000,001.
+    /// The number of cases of a formula without `Not`. A count above 1,000,000 is answered as
+    /// 1,000,001.
     pub fn cases(&self) -> u32
         ensures { result ≡ min (cases_of (claim_of self.now)) 1000001 }
     {
@@ -212,9 +259,9 @@ impl Formula {
         match self {
             Formula::True => truth_value(alloc, true),
             Formula::False => truth_value(alloc, false),
-            Formula::Le(term) => le(alloc, term),
-            Formula::Eq(term) => eq(alloc, term),
-            Formula::Ne(term) => ne(alloc, term),
+            Formula::Le(term) => copied(alloc, Comparison::Le, term),
+            Formula::Eq(term) => copied(alloc, Comparison::Eq, term),
+            Formula::Ne(term) => copied(alloc, Comparison::Ne, term),
             Formula::And(left, right) => {
                 let left = left.get().copied(alloc)?;
                 let right = right.get().copied(alloc)?;
@@ -233,8 +280,8 @@ impl Formula {
     }
 }
 
-// A call that goes down a formula keeps a frame for each level. So the formulas that it makes stand behind a
-// `Boxed`, and what makes one is a function of its own.
+// A call that goes down a formula keeps a frame for each level. So the formulas that it makes stand
+// behind a `Boxed`, and what makes one is a function of its own.
 
 #[inline(never)]
 fn truth_value(alloc: Global, is_true: bool) -> Result<Boxed<Formula>, AllocError>
@@ -246,25 +293,41 @@ fn truth_value(alloc: Global, is_true: bool) -> Result<Boxed<Formula>, AllocErro
     Boxed::new(alloc, Formula::False)
 }
 
+// The comparison of the term with 0.
 #[inline(never)]
-fn le(alloc: Global, term: &Term) -> Result<Boxed<Formula>, AllocError>
-    ensures { IfOk result (λ f. f ≡ Formula.Le term.now) }
+fn compared(alloc: Global, comparison: Comparison, term: Term) -> Result<Boxed<Formula>, AllocError>
+    ensures { IfOk result (λ f. f ≡ comparing comparison term) }
 {
-    Boxed::new(alloc, Formula::Le(term.copy()?))
+    match comparison {
+        Comparison::Le => Boxed::new(alloc, Formula::Le(term)),
+        Comparison::Eq => Boxed::new(alloc, Formula::Eq(term)),
+        Comparison::Ne => Boxed::new(alloc, Formula::Ne(term)),
+    }
 }
 
-#[inline(never)]
-fn eq(alloc: Global, term: &Term) -> Result<Boxed<Formula>, AllocError>
-    ensures { IfOk result (λ f. f ≡ Formula.Eq term.now) }
+// The comparison of an equal term with 0.
+fn copied(alloc: Global, comparison: Comparison, term: &Term) -> Result<Boxed<Formula>, AllocError>
+    ensures { IfOk result (λ f. f ≡ comparing comparison term.now) }
 {
-    Boxed::new(alloc, Formula::Eq(term.copy()?))
+    compared(alloc, comparison, term.copy()?)
 }
 
+// The comparison of the term, with another in place of a variable, with 0.
 #[inline(never)]
-fn ne(alloc: Global, term: &Term) -> Result<Boxed<Formula>, AllocError>
-    ensures { IfOk result (λ f. f ≡ Formula.Ne term.now) }
+fn replaced(
+    alloc: Global,
+    comparison: Comparison,
+    term: &Term,
+    v: Variable,
+    by: &Term,
+) -> Result<Boxed<Formula>, TermError>
+    ensures ok { IfOk result (λ f. (f ≡ comparing comparison (replaced v by.now term.now))
+        × IsWithin term_limit (replaced v by.now term.now)) }
+    ensures too_wide { result ≡ Err TermError.TooWide
+        → ¬ IsWithin term_limit (replaced v by.now term.now) }
 {
-    Boxed::new(alloc, Formula::Ne(term.copy()?))
+    let term = term.replace(v, by)?;
+    Ok(compared(alloc, comparison, term)?)
 }
 
 #[inline(never)]
@@ -296,48 +359,6 @@ fn not(alloc: Global, inner: Boxed<Formula>) -> Result<Boxed<Formula>, AllocErro
     Boxed::new(alloc, Formula::Not(inner))
 }
 
-#[inline(never)]
-fn replaced_le(
-    alloc: Global,
-    term: &Term,
-    v: Variable,
-    by: &Term,
-) -> Result<Boxed<Formula>, TermError>
-    ensures ok { IfOk result (λ f. (claim_of f ≡ claim.Le (replaced v by.now term.now)) × IsWithin term_limit (replaced v by.now term.now)) }
-    ensures too_wide { result ≡ Err TermError.TooWide → ¬ IsWithin term_limit (replaced v by.now term.now) }
-{
-    let term = term.replace(v, by)?;
-    Ok(Boxed::new(alloc, Formula::Le(term))?)
-}
-
-#[inline(never)]
-fn replaced_eq(
-    alloc: Global,
-    term: &Term,
-    v: Variable,
-    by: &Term,
-) -> Result<Boxed<Formula>, TermError>
-    ensures ok { IfOk result (λ f. (claim_of f ≡ claim.Eq (replaced v by.now term.now)) × IsWithin term_limit (replaced v by.now term.now)) }
-    ensures too_wide { result ≡ Err TermError.TooWide → ¬ IsWithin term_limit (replaced v by.now term.now) }
-{
-    let term = term.replace(v, by)?;
-    Ok(Boxed::new(alloc, Formula::Eq(term))?)
-}
-
-#[inline(never)]
-fn replaced_ne(
-    alloc: Global,
-    term: &Term,
-    v: Variable,
-    by: &Term,
-) -> Result<Boxed<Formula>, TermError>
-    ensures ok { IfOk result (λ f. (claim_of f ≡ claim.Ne (replaced v by.now term.now)) × IsWithin term_limit (replaced v by.now term.now)) }
-    ensures too_wide { result ≡ Err TermError.TooWide → ¬ IsWithin term_limit (replaced v by.now term.now) }
-{
-    let term = term.replace(v, by)?;
-    Ok(Boxed::new(alloc, Formula::Ne(term))?)
-}
-
 // Both parts, or one of them where it is a denial.
 fn junction(
     alloc: Global,
@@ -345,7 +366,9 @@ fn junction(
     left: Boxed<Formula>,
     right: Boxed<Formula>,
 ) -> Result<Boxed<Formula>, AllocError>
-    ensures { IfOk result (λ f. claim_of f ≡ (if is_and then claim.And (claim_of left) (claim_of right) else claim.Or (claim_of left) (claim_of right))) }
+    ensures { IfOk result (λ f. claim_of f
+        ≡ (if is_and then claim.And (claim_of left) (claim_of right)
+        else claim.Or (claim_of left) (claim_of right))) }
 {
     if is_and {
         return and(alloc, left, right);
@@ -355,23 +378,24 @@ fn junction(
 
 // The term is 0, or it is not.
 fn equation(alloc: Global, is_zero: bool, term: &Term) -> Result<Boxed<Formula>, AllocError>
-    ensures { IfOk result (λ f. claim_of f ≡ (if is_zero then claim.Eq term.now else claim.Ne term.now)) }
+    ensures { IfOk result (λ f. claim_of f
+        ≡ (if is_zero then claim.Eq term.now else claim.Ne term.now)) }
 {
     if is_zero {
-        return eq(alloc, term);
+        return copied(alloc, Comparison::Eq, term);
     }
-    ne(alloc, term)
+    copied(alloc, Comparison::Ne, term)
 }
 
 // The term is at most 0, or it is not.
 #[inline(never)]
-fn comparison(alloc: Global, is_positive: bool, term: &Term) -> Result<Boxed<Formula>, AllocError>
+fn inequality(alloc: Global, is_positive: bool, term: &Term) -> Result<Boxed<Formula>, AllocError>
     requires { IsWithin narrow_limit term.now }
-    ensures { IfOk result (λ f. claim_of f ≡ (if is_positive then claim.Le term.now else claim.Le (difference_of (constant_of (pos 1)) term.now))) }
+    ensures { IfOk result (λ f. claim_of f ≡ (if is_positive then claim.Le term.now
+        else claim.Le (difference_of (constant_of (pos 1)) term.now))) }
 {
     if is_positive {
-        return le(alloc, term);
+        return copied(alloc, Comparison::Le, term);
     }
-    let denied = term.denied()?;
-    Boxed::new(alloc, Formula::Le(denied))
+    compared(alloc, Comparison::Le, term.denied()?)
 }

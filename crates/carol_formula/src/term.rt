@@ -1,14 +1,17 @@
-ghost use Rattle.std.specs.Prelude.{ℕ, ℤ, ◌<◌, ◌-ℤ◌, ◌+ℤ◌, ◌*ℤ◌, IfOk, IsTrue, ◌↔◌, pos, ◌≢◌, ◌++◌, SomeIff, OnOk, [], ◌≡◌};
+ghost use Rattle.std.specs.Prelude.{ℕ, ℤ, ◌≤◌, ◌≤ℤ◌, ◌<ℤ◌, unsigned_abs, ◌-ℤ◌, ◌+ℤ◌, ◌*ℤ◌, IfOk, IsTrue, ◌↔◌, pos, ◌≢◌, ◌++◌, SomeIff, OnOk, [], ◌≡◌};
 ghost use Rattle.carol_formula.specs.Bounds.{IsBelow, term_limit, value_limit, narrow_limit};
 ghost use Rattle.carol_formula.specs.Linear.{IsWithin, IsTerm, AscendsFrom, NoneZero, AllBelow, kept, normal_of, times, plus_of, constant_of, variable_of, sum_of, difference_of, scaled, coefficient_of, without_of, replaced};
-ghost use Rattle.carol_formula.specs.Value.{value_at, Fits};
+ghost use Rattle.carol_formula.specs.Division.{EachDivides, quotient_of};
+ghost use Rattle.carol_formula.specs.Value.{value_at, Fits, FitsWithin};
 
+use crate::number::{VALUE_LIMIT, ceiling, fused, is_below, product_within, quotient, sum_within};
 use crate::variable::{Lookup, Variable, is_before, is_of};
 use std::alloc::{AllocError, Global};
 use std::marker::Model;
+use thiserror::Error;
 
-/// A linear term in normal form: its products by ascending variable, none with coefficient zero, and a
-/// constant. Each coefficient and the constant are below 2^100 in absolute value.
+/// A linear term in normal form: its products by ascending variable, none with coefficient zero,
+/// and a constant. Each coefficient and the constant are below 2^100 in absolute value.
 #[derive(Debug, Drop)]
 pub struct Term {
     pairs: Vec<(Variable, i128)>,
@@ -30,11 +33,13 @@ impl Model for Term {
 pub struct Row(pub Term);
 
 /// Why a term was not made.
-#[derive(Debug, Clone, Copy, PartialEq, Eq)]
+#[derive(Debug, Clone, Copy, PartialEq, Eq, Error)]
 pub enum TermError {
     /// A coefficient or the constant of the true result is not below 2^100 in absolute value.
+    #[error("a coefficient or the constant of a term is too wide")]
     TooWide,
     /// Memory ran out.
+    #[error("out of memory")]
     NoMemory,
 }
 
@@ -47,60 +52,6 @@ impl From<AllocError> for TermError {
     fn from(_: AllocError) -> TermError {
         TermError::NoMemory
     }
-}
-
-const TERM_LIMIT: u128 = 1 << 100;
-
-const VALUE_LIMIT: u128 = 1 << 126;
-
-const NARROW_LIMIT: u128 = 1 << 90;
-
-// a + b * c, where it is below the limit of a term.
-fn fused(a: i128, b: i128, c: i128) -> Option<i128>
-    requires { IsBelow term_limit a }
-    ensures { SomeIff result (IsBelow term_limit (a +ℤ (b *ℤ c))) (a +ℤ (b *ℤ c)) }
-{
-    let product = b.checked_mul(c)?;
-    let sum = a.checked_add(product)?;
-    if sum.unsigned_abs() < TERM_LIMIT {
-        Some(sum)
-    } else {
-        None
-    }
-}
-
-// The number is below the limit of a value.
-fn is_value(number: i128) -> bool
-    ensures { IsTrue result ↔ IsBelow value_limit number }
-{
-    number.unsigned_abs() < VALUE_LIMIT
-}
-
-// The number is below the limit of a narrow formula.
-fn is_narrow_number(number: i128) -> bool
-    ensures { IsTrue result ↔ IsBelow narrow_limit number }
-{
-    number.unsigned_abs() < NARROW_LIMIT
-}
-
-// a * b, where it is below the limit of a value.
-fn value_product(a: i128, b: i128) -> Option<i128>
-    ensures { SomeIff result (IsBelow value_limit (a *ℤ b)) (a *ℤ b) }
-{
-    let product = a.checked_mul(b)?;
-    if is_value(product) {
-        Some(product)
-    } else {
-        None
-    }
-}
-
-// a + b, where it is below the limit of a value.
-fn value_sum(a: i128, b: i128) -> Option<i128>
-    ensures { SomeIff result (IsBelow value_limit (a +ℤ b)) (a +ℤ b) }
-{
-    let sum = a.checked_add(b)?;
-    if is_value(sum) { Some(sum) } else { None }
 }
 
 // Appends a product, unless its coefficient is zero.
@@ -121,8 +72,11 @@ fn keep_sum(
     other: &(Variable, i128),
 ) -> Result<(), TermError>
     requires { IsBelow term_limit one.now.1 }
-    ensures ok { OnOk result ((out.new.items ≡ out.old.items ++ kept other.now.0 (one.now.1 +ℤ (by *ℤ other.now.1)) []) × IsBelow term_limit (one.now.1 +ℤ (by *ℤ other.now.1))) }
-    ensures too_wide { result ≡ Err TermError.TooWide → ¬ IsBelow term_limit (one.now.1 +ℤ (by *ℤ other.now.1)) }
+    ensures ok { OnOk result ((out.new.items
+        ≡ out.old.items ++ kept other.now.0 (one.now.1 +ℤ (by *ℤ other.now.1)) [])
+        × IsBelow term_limit (one.now.1 +ℤ (by *ℤ other.now.1))) }
+    ensures too_wide { result ≡ Err TermError.TooWide
+        → ¬ IsBelow term_limit (one.now.1 +ℤ (by *ℤ other.now.1)) }
 {
     let Some(coefficient) = fused(one.1, by, other.1) else {
         return Err(TermError::TooWide);
@@ -137,7 +91,9 @@ fn keep_product(
     by: i128,
     other: &(Variable, i128),
 ) -> Result<(), TermError>
-    ensures ok { OnOk result ((out.new.items ≡ out.old.items ++ kept other.now.0 (by *ℤ other.now.1) []) × IsBelow term_limit (by *ℤ other.now.1)) }
+    ensures ok { OnOk result ((out.new.items
+        ≡ out.old.items ++ kept other.now.0 (by *ℤ other.now.1) [])
+        × IsBelow term_limit (by *ℤ other.now.1)) }
     ensures too_wide { result ≡ Err TermError.TooWide → ¬ IsBelow term_limit (by *ℤ other.now.1) }
 {
     keep_sum(out, &(other.0, 0), by, other)
@@ -154,8 +110,10 @@ fn merged(
     requires others_ascend { AscendsFrom 0 others.now }
     requires none_zero { NoneZero ones.now }
     requires below { AllBelow term_limit ones.now }
-    ensures ok { IfOk result (λ v. (v.items ≡ normal_of (ones.now ++ times by others.now)) × AllBelow term_limit v.items) }
-    ensures too_wide { result ≡ Err TermError.TooWide → ¬ AllBelow term_limit (normal_of (ones.now ++ times by others.now)) }
+    ensures ok { IfOk result (λ v. (v.items ≡ normal_of (ones.now ++ times by others.now))
+        × AllBelow term_limit v.items) }
+    ensures too_wide { result ≡ Err TermError.TooWide
+        → ¬ AllBelow term_limit (normal_of (ones.now ++ times by others.now)) }
 {
     let mut out = Vec::new(alloc);
     let mut left = ones;
@@ -226,7 +184,8 @@ impl Term {
     // The term and `by` times another.
     fn plus(&self, by: i128, other: &Term) -> Result<Term, TermError>
         ensures ok { IfOk result (λ t. (t ≡ plus_of self.now by other.now) × IsTerm t) }
-        ensures too_wide { result ≡ Err TermError.TooWide → ¬ IsWithin term_limit (plus_of self.now by other.now) }
+        ensures too_wide { result ≡ Err TermError.TooWide
+            → ¬ IsWithin term_limit (plus_of self.now by other.now) }
     {
         let Some(rest) = fused(self.rest, by, other.rest) else {
             return Err(TermError::TooWide);
@@ -235,11 +194,14 @@ impl Term {
         Ok(Term { pairs, rest })
     }
 
-    /// The sum. `TooWide` comes where a coefficient or the constant of the true sum is not below 2^100.
+    /// The sum. `TooWide` comes where a coefficient or the constant of the true sum is not below
+    /// 2^100.
     pub fn add(&self, other: &Term) -> Result<Term, TermError>
         ensures ok { IfOk result (λ t. (t ≡ sum_of self.now other.now) × IsTerm t) }
-        ensures value { IfOk result (λ t. (f : ℕ → ℤ) → value_at t f ≡ value_at self.now f +ℤ value_at other.now f) }
-        ensures too_wide { result ≡ Err TermError.TooWide → ¬ IsWithin term_limit (sum_of self.now other.now) }
+        ensures value { IfOk result (λ t. (f : ℕ → ℤ)
+            → value_at t f ≡ value_at self.now f +ℤ value_at other.now f) }
+        ensures too_wide { result ≡ Err TermError.TooWide
+            → ¬ IsWithin term_limit (sum_of self.now other.now) }
     {
         self.plus(1, other)
     }
@@ -247,8 +209,10 @@ impl Term {
     /// The difference. `TooWide` comes as in a sum.
     pub fn sub(&self, other: &Term) -> Result<Term, TermError>
         ensures ok { IfOk result (λ t. (t ≡ difference_of self.now other.now) × IsTerm t) }
-        ensures value { IfOk result (λ t. (f : ℕ → ℤ) → value_at t f ≡ value_at self.now f -ℤ value_at other.now f) }
-        ensures too_wide { result ≡ Err TermError.TooWide → ¬ IsWithin term_limit (difference_of self.now other.now) }
+        ensures value { IfOk result (λ t. (f : ℕ → ℤ)
+            → value_at t f ≡ value_at self.now f -ℤ value_at other.now f) }
+        ensures too_wide { result ≡ Err TermError.TooWide
+            → ¬ IsWithin term_limit (difference_of self.now other.now) }
     {
         self.plus(-1, other)
     }
@@ -257,60 +221,86 @@ impl Term {
     pub fn scale(&self, by: i128) -> Result<Term, TermError>
         ensures ok { IfOk result (λ t. (t ≡ scaled by self.now) × IsTerm t) }
         ensures value { IfOk result (λ t. (f : ℕ → ℤ) → value_at t f ≡ by *ℤ value_at self.now f) }
-        ensures too_wide { result ≡ Err TermError.TooWide → ¬ IsWithin term_limit (scaled by self.now) }
+        ensures too_wide { result ≡ Err TermError.TooWide
+            → ¬ IsWithin term_limit (scaled by self.now) }
     {
         Term::constant(self.allocator(), 0).plus(by, self)
     }
 
-    // The term's value, where all the numbers on the way to it are below the limit of a value.
-    fn checked_value<L: Lookup>(&self, at: &L) -> Option<i128>
-        ensures { SomeIff result (Fits self.now (L.numbers at.now)) (value_at self.now (L.numbers at.now)) }
+    /// The term divided by a number above 0 that divides each coefficient, and its constant rounded
+    /// up. Of whole numbers it is at most 0 exactly where the term is.
+    pub fn divide(&self, by: i128) -> Result<Term, AllocError>
+        requires positive { pos 0 <ℤ by }
+        requires exact { EachDivides (unsigned_abs by) self.now.pairs }
+        ensures ok { IfOk result (λ t. (t ≡ quotient_of (unsigned_abs by) self.now) × IsTerm t) }
+        ensures same { IfOk result (λ t. (f : ℕ → ℤ)
+            → (value_at t f ≤ℤ pos 0) ↔ (value_at self.now f ≤ℤ pos 0)) }
+    {
+        let mut pairs = Vec::with_capacity(self.allocator(), self.pairs.len())?;
+        let mut left = self.pairs();
+        while let Some((pair, more)) = left.split_first() {
+            pairs.push((pair.0, quotient(pair.1, by)))?;
+            left = more;
+        }
+        Ok(Term {
+            pairs,
+            rest: ceiling(self.rest(), by),
+        })
+    }
+
+    /// The term's value, where each product, and each sum on the way from the first variable to the
+    /// constant, is below the limit in absolute value.
+    pub fn value_within<L: Lookup>(&self, at: &L, limit: u128) -> Option<i128>
+        requires { limit ≤ value_limit }
+        ensures { SomeIff result (FitsWithin limit self.now (L.numbers at.now))
+            (value_at self.now (L.numbers at.now)) }
     {
         let mut sum = 0;
         let mut left = self.pairs();
         while let Some((pair, more)) = left.split_first() {
-            let product = value_product(pair.1, at.value_of(pair.0))?;
-            sum = value_sum(sum, product)?;
+            let product = product_within(pair.1, at.value_of(pair.0), limit)?;
+            sum = sum_within(sum, product, limit)?;
             left = more;
         }
-        value_sum(sum, self.rest())
+        sum_within(sum, self.rest(), limit)
     }
 
-    /// The term's value. Each product, and each sum on the way from the first variable to the constant, is
-    /// to be below 2^126 in absolute value, as `fits` tells.
+    /// The term's value. Each product, and each sum on the way from the first variable to the
+    /// constant, is to be below 2^126 in absolute value, as `fits` tells.
     pub fn value<L: Lookup>(&self, at: &L) -> i128
         requires { Fits self.now (L.numbers at.now) }
         ensures { result ≡ value_at self.now (L.numbers at.now) }
     {
-        self.checked_value(at).unwrap()
+        self.value_within(at, VALUE_LIMIT).unwrap()
     }
 
     /// Each product and each sum on the way to the term's value is below 2^126 in absolute value.
     pub fn fits<L: Lookup>(&self, at: &L) -> bool
         ensures { IsTrue result ↔ Fits self.now (L.numbers at.now) }
     {
-        self.checked_value(at).is_some()
+        self.value_within(at, VALUE_LIMIT).is_some()
     }
 
-    /// Each coefficient and the constant are below 2^90 in absolute value.
-    pub fn is_narrow(&self) -> bool
-        ensures { IsTrue result ↔ IsWithin narrow_limit self.now }
+    /// Whether each coefficient and the constant are below the limit in absolute value.
+    pub fn is_within(&self, limit: u128) -> bool
+        ensures { IsTrue result ↔ IsWithin limit self.now }
     {
         let mut left = self.pairs();
         while let Some((pair, more)) = left.split_first() {
-            if !is_narrow_number(pair.1) {
+            if !is_below(pair.1, limit) {
                 return false;
             }
             left = more;
         }
-        is_narrow_number(self.rest())
+        is_below(self.rest(), limit)
     }
 
-    // The coefficient of a variable, which is 0 where the term has none.
-    fn coefficient(&self, v: Variable) -> i128
-        ensures { result ≡ coefficient_of v self.now.pairs }
+    /// The coefficient of a variable, which is 0 where the term has none.
+    pub fn coefficient(&self, v: Variable) -> i128
+        ensures value { result ≡ coefficient_of v self.now.pairs }
+        ensures small { IsBelow term_limit result }
     {
-        let mut left = self.pairs.as_slice();
+        let mut left = self.pairs();
         while let Some((pair, more)) = left.split_first() {
             if is_of(pair, v) {
                 return pair.1;
@@ -341,7 +331,8 @@ impl Term {
     // The term with another in place of a variable.
     pub(crate) fn replace(&self, v: Variable, by: &Term) -> Result<Term, TermError>
         ensures ok { IfOk result (λ t. (t ≡ replaced v by.now self.now) × IsTerm t) }
-        ensures too_wide { result ≡ Err TermError.TooWide → ¬ IsWithin term_limit (replaced v by.now self.now) }
+        ensures too_wide { result ≡ Err TermError.TooWide
+            → ¬ IsWithin term_limit (replaced v by.now self.now) }
     {
         let others = self.without(v)?;
         others.plus(self.coefficient(v), by)

@@ -1,7 +1,8 @@
+use crate::boxed::Boxed;
 use crate::formula::Formula;
+use crate::number::NARROW_LIMIT;
 use crate::term::{Term, TermError};
 use crate::variable::{Valuation, Variable};
-use sqlite_items::Boxed;
 use std::alloc::{AllocError, Global};
 use std::test::Fail;
 
@@ -148,7 +149,7 @@ fn a_denial_is_pushed_to_the_comparisons(rt: HostRuntime) -> Result<(), Fail> {
         not(alloc, at_most_zero(alloc, 2)?)?,
     )?;
     let formula = not(alloc, both(alloc, at_most_zero(alloc, 0)?, some)?)?;
-    assert!(rt; formula.is_narrow());
+    assert!(rt; formula.is_within(NARROW_LIMIT));
     let plain = formula.negation_form(alloc)?;
     // x > 0, or y is 0 and z <= 0
     let table = [
@@ -193,9 +194,9 @@ fn survives(
     let here = Valuation::new(alloc);
     assert!(rt; formula.fits(&here));
     assert!(rt; formula.holds(&here));
-    assert!(rt; formula.is_narrow());
+    assert!(rt; formula.is_within(NARROW_LIMIT));
     let denied = not(alloc, formula.copy(alloc)?)?;
-    assert!(rt; denied.is_narrow());
+    assert!(rt; denied.is_within(NARROW_LIMIT));
     let plain = denied.negation_form(alloc)?;
     assert!(rt; plain.fits(&here));
     assert!(rt; !plain.holds(&here));
@@ -213,6 +214,19 @@ fn a_chain_may_be_deep(rt: HostRuntime) -> Result<(), Fail> {
     }
     survives(&rt, alloc, right)?;
     survives(&rt, alloc, left)?;
+    Ok(())
+}
+
+#[test]
+fn a_tree_of_any_depth_is_dropped(rt: HostRuntime) -> Result<(), Fail> {
+    let alloc = rt.alloc();
+    let mut left = Formula::True;
+    let mut right = Formula::False;
+    for _ in 0..200_000u32 {
+        left = both(alloc, left, either(alloc, Formula::True, Formula::False)?)?;
+        right = either(alloc, both(alloc, Formula::True, Formula::False)?, right)?;
+    }
+    let _both = both(alloc, left, right)?;
     Ok(())
 }
 

@@ -63,8 +63,10 @@ pub(crate) fn is_before(pair: &(Variable, i128), variable: Variable) -> bool
 
 // Where the variable's number stands, or else where it is to be inserted.
 fn place_of(numbers: &[(Variable, i128)], v: Variable) -> Result<usize, usize>
-    ensures found { IfOk result (λ i. (i < length numbers.now) × ((number : ℤ) → with_number v number numbers.now ≡ slice_set numbers.now i (v, number))) }
-    ensures absent { IfErr result (λ i. (i ≤ length numbers.now) × ((number : ℤ) → with_number v number numbers.now ≡ insert numbers.now i (v, number))) }
+    ensures found { IfOk result (λ i. (i < length numbers.now)
+        × ((number : ℤ) → with_number v number numbers.now ≡ slice_set numbers.now i (v, number))) }
+    ensures absent { IfErr result (λ i. (i ≤ length numbers.now)
+        × ((number : ℤ) → with_number v number numbers.now ≡ insert numbers.now i (v, number))) }
 {
     let mut left = numbers;
     while let Some((number, more)) = left.split_first() {

@@ -3,7 +3,7 @@ use Rattle.std.proofs.lemmas.Int.{to_z-of_z}
 use Rattle.std.specs.Int.{cast_unsigned as of_z}
 use Rattle.std.specs.Prelude.{FitsSigned, pos}
 use Rattle.std.specs.Int.{w128, int_rem_euclid, int_div_euclid}
-use Rattle.carol_cert_rows.proofs.Division.{divides_from_rest, rest_from_divides, int_div_euclid-floor_of}
+use Rattle.carol_formula.proofs.Division.{divides_from_rest, rest_from_divides, int_div_euclid-floor_of}
 use Rattle.carol_cert_rows.proofs.column.quotient.Goals as goal
 
 pub returns-then-rem_euclid-eq0-clause-value : goal.returns-then-rem_euclid-eq0-clause-value

@@ -13,7 +13,7 @@ returns-clause-value c =
     let y : FitsSigned w128 c.args.y = c.ranges.y in
     let first_fits : FitsSigned w128 c.in_ok-first.first = search rules in
     let second_fits : FitsSigned w128 c.in_ok-second.second = search rules in
-    let first = simp to_z-of_z at c.in_ok-first.ensures in
-    let second = simp to_z-of_z at c.in_ok-second.ensures in
-    let total = simp to_z-of_z at c.sum.ensures.value in
+    let first = simp to_z-of_z at c.in_ok-first.ensures.value in
+    let second = simp to_z-of_z at c.in_ok-second.ensures.value in
+    let total = simp to_z-of_z at c.sum_within.ensures.value in
     sum_bounded _ _ _ _ _ first second total

@@ -1,10 +1,13 @@
 use Rattle.std.proofs.Common.{◌≤◌}
-use Rattle.carol_cert.specs.declared.tree.Refutation.{size-Refutation}
+use Rattle.carol_cert.specs.Proof.{rank_of}
 use Rattle.carol_cert.proofs.tree.Refutation.+drop.Given as goal
 
 abbrev pub decreases-drop : goal.decreases-drop
-decreases-drop l = goal.size-drop l
+decreases-drop l = rank_of l.self
 
--- what is left is no deeper than the whole
+-- what is left ranks no higher than the whole
 abbrev pub invariant-loop-self : goal.invariant-loop-self
-invariant-loop-self l = size-Refutation l.self ≤ size-Refutation l.initial.self
+invariant-loop-self l = rank_of l.self ≤ rank_of l.initial.self
+
+abbrev pub decreases-loop-self : goal.decreases-loop-self
+decreases-loop-self l = rank_of l.self

@@ -1,6 +1,13 @@
 use Rattle.std.proofs.Common.{◌≤◌}
-use Rattle.carol_formula.specs.declared.formula.Formula.{size-Formula}
+use Rattle.carol_formula.specs.Tree.{rank_of}
 use Rattle.carol_formula.proofs.formula.Formula.+drop.Given as goal
 
+abbrev pub decreases-drop : goal.decreases-drop
+decreases-drop l = rank_of l.self
+
+-- what is left ranks no higher than the whole
 abbrev pub invariant-loop-self : goal.invariant-loop-self
-invariant-loop-self l = size-Formula l.self ≤ size-Formula l.initial.self
+invariant-loop-self l = rank_of l.self ≤ rank_of l.initial.self
+
+abbrev pub decreases-loop-self : goal.decreases-loop-self
+decreases-loop-self l = rank_of l.self
