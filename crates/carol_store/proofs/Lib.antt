@@ -1,3 +1,6 @@
+pub mod Actions
 pub mod Atoms
 pub mod Cells
+pub mod Chosen
+pub mod KindLaws
 pub mod Orders

@@ -1,7 +1,8 @@
 ghost use Rattle.carol_store.specs.Laws.{EffectsCommute, OrderIsFree};
 
-/// What holds of all effects and stores: the order in which effects are applied makes no difference. It does nothing, and is called for its clauses.
-pub fn effects_commute()
+/// What holds of all effects and stores: the order in which effects are applied makes no difference. It does nothing,
+/// and is called for its clauses.
+pub fn store_laws()
     ensures two { EffectsCommute }
     ensures all { OrderIsFree }
 {}

@@ -13,6 +13,10 @@ pub enum CellKind {
     /// A whole number, to which an atom adds its amount.
     #[default]
     Counter,
+    /// A whole number, which an atom raises to its target, where that is greater.
+    Peak,
+    /// 0 or 1, which an atom makes 1.
+    Flag,
 }
 
 /// The kinds of a program's cells, in their order. Contracts see it as that list.

@@ -1,5 +1,5 @@
 use Rattle.carol_store.proofs.Orders.{commutes, order_is_free}
-use Rattle.carol_store.proofs.laws.effects_commute.Goals as goal
+use Rattle.carol_store.proofs.laws.store_laws.Goals as goal
 
 pub returns-clause-two : goal.returns-clause-two
 returns-clause-two c = commutes
