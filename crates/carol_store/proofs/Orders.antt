@@ -1,7 +1,6 @@
 -- The order in which atoms and effects are applied makes no difference.
 use Rattle.std.proofs.Common.{◌≡◌, ℕ, zero, suc, List, [], ◌∷◌, refl, ap}
 use Rattle.carol_store.specs.declared.shape.CellKind.{CellKind}
-use Rattle.carol_store.specs.declared.effect.Atom.{Atom}
 use Rattle.carol_store.specs.Actions.{Commutes}
 use Rattle.carol_store.specs.Kinds.{CellValue, changed}
 use Rattle.carol_store.specs.Laws.{EffectsCommute, OrderIsFree}

@@ -1,5 +1,5 @@
 -- The directions in which an effect moves cells, and one step in a direction.
-use Rattle.std.specs.Prelude.{ℕ, Bool, List, Option, slice_get}
+use Rattle.std.specs.Prelude.{List, Option, slice_get}
 use Rattle.std.specs.List.{filter_map}
 use Rattle.std.specs.Option.{option_map, option_and_then}
 use Rattle.carol_store.specs.declared.shape.CellKind.{CellKind}

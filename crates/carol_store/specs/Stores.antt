@@ -1,5 +1,5 @@
 -- What a store of a shape is, and what an effect makes of it.
-use Rattle.std.specs.Prelude.{ℕ, ◌≤◌, zero, suc, List, [], ◌∷◌, unsigned_abs}
+use Rattle.std.specs.Prelude.{ℕ, zero, suc, List, [], ◌∷◌}
 use Rattle.carol_store.specs.declared.shape.CellKind.{CellKind}
 use Rattle.carol_store.specs.declared.effect.Atom.{Atom}
 use Rattle.carol_store.specs.Actions.{act_all}

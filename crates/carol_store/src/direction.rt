@@ -25,17 +25,19 @@ pub fn direction_of(shape: &Shape, atom: Atom) -> Option<Direction>
     ensures { result ≡ direction_of shape.now atom }
 {
     let kind = shape.kinds()[atom.cell as usize];
-    let cell = atom.cell;
-    is_up(kind, atom.value).map(|up| Direction { cell, up })
+    match is_up(kind, atom) {
+        Some(up) => Some(Direction { cell: atom.cell, up }),
+        None => None,
+    }
 }
 
-// Whether the atom's value moves a cell of this kind up or down, if it moves it.
-fn is_up(kind: CellKind, value: i64) -> Option<bool>
-    ensures { result ≡ way kind value }
+// Whether the atom moves a cell of this kind up or down, if it moves it.
+fn is_up(kind: CellKind, atom: Atom) -> Option<bool>
+    ensures { result ≡ way kind atom.value }
 {
     match kind {
-        CellKind::Counter if value == 0 => None,
-        CellKind::Counter => Some(value > 0),
+        CellKind::Counter if atom.value == 0 => None,
+        CellKind::Counter => Some(atom.value > 0),
         CellKind::Peak | CellKind::Flag => Some(true),
     }
 }

@@ -3,8 +3,8 @@ ghost use Rattle.carol_store.specs.Effects.{Ascends, IsEffect};
 ghost use Rattle.carol_store.specs.Directions.{directions};
 
 use crate::direction::{DirectionList, direction_of};
-use crate::shape::{MOST_CELLS, Shape};
-use crate::short_list::ShortList;
+use crate::shape::Shape;
+use crate::short_list::{MOST_CELLS, ShortList};
 use std::alloc::Global;
 use std::marker::Model;
 

@@ -14,8 +14,8 @@ mod store;
 pub use direction::{Direction, DirectionList};
 pub use effect::{Atom, AtomList, Effect, MOST_AMOUNT, MOST_TARGET};
 pub use laws::store_laws;
-pub use shape::{CellKind, MOST_CELLS, Shape};
-pub use short_list::ShortList;
+pub use shape::{CellKind, Shape};
+pub use short_list::{MOST_CELLS, ShortList};
 pub use store::Store;
 
 #[cfg(test)]

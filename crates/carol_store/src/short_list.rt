@@ -1,21 +1,24 @@
 ghost use Rattle.std.specs.Prelude.{◌≡◌, ◌↔◌, ◌<◌, ◌≤◌, [], ◌∷◌, ◌++◌, length, IsSome};
 ghost use Rattle.std.specs.Option.{option_to_list};
 
-use crate::shape::MOST_CELLS;
 use smallvec::SmallVec;
 use std::alloc::Global;
 use std::marker::Model;
+
+/// How many cells a shape has at most, and so how many items a short list has.
+pub const MOST_CELLS: usize = 16;
 
 /// A list of at most sixteen items, as many as a shape has cells, that are kept in place. Contracts see it as the
 /// list of its items.
 #[derive(Debug, Drop)]
 pub struct ShortList<T> {
-    items: SmallVec<T, 16>,
+    items: SmallVec<T, MOST_CELLS>,
 }
 
 impl<T> Model for ShortList<T> {
     ghost use Rattle.std.specs.Prelude.{List, ◌≡◌, ◌≤◌, length};
     ghost use Rattle.std.specs.Coded.{coded_list};
+    ghost use Rattle.carol_store.specs.declared.short_list.TheConstants.{MOST_CELLS};
 
     ghost Value = { List T };
 
@@ -23,7 +26,7 @@ impl<T> Model for ShortList<T> {
 
     ghost view = { λ l. l.items.items };
 
-    ghost invariant = { λ l. (length l.items.items ≤ 16) × (l.items.capacity ≡ 16) };
+    ghost invariant = { λ l. (length l.items.items ≤ MOST_CELLS) × (l.items.capacity ≡ MOST_CELLS) };
 }
 
 impl<T: Copy + Default> ShortList<T> {

@@ -6,6 +6,7 @@ ghost use Rattle.carol_store.specs.Stores.{IsStore, AreWords, StaysInWords, appl
 
 use crate::effect::{Atom, Effect};
 use crate::shape::{CellKind, Shape};
+use crate::short_list::MOST_CELLS;
 use smallvec::SmallVec;
 use std::alloc::Global;
 use std::marker::Model;
@@ -13,18 +14,19 @@ use std::marker::Model;
 /// The values of a shape's cells. Contracts see it as the list of them.
 #[derive(Drop)]
 pub struct Store {
-    cells: SmallVec<i64, 16>,
+    cells: SmallVec<i64, MOST_CELLS>,
 }
 
 impl Model for Store {
     ghost use Rattle.std.specs.Prelude.{List, ◌≡◌, ◌≤◌, length};
     ghost use Rattle.carol_store.specs.Kinds.{CellValue};
+    ghost use Rattle.carol_store.specs.declared.short_list.TheConstants.{MOST_CELLS};
 
     ghost Value = { List CellValue };
 
     ghost view = { λ s. s.cells.items };
 
-    ghost invariant = { λ s. length s.cells.items ≤ 16 };
+    ghost invariant = { λ s. length s.cells.items ≤ MOST_CELLS };
 }
 
 impl Store {
@@ -39,7 +41,7 @@ impl Store {
 
     // The store of at most sixteen cells.
     fn of(alloc: Global, values: &[i64]) -> Store
-        requires { length values.now ≤ 16 }
+        requires { length values.now ≤ MOST_CELLS }
         ensures { result ≡ values.now }
     {
         Store {
@@ -91,7 +93,7 @@ impl Store {
     /// The number of cells, at most sixteen.
     pub fn len(&self) -> u32
         ensures value { result ≡ length self.now }
-        ensures few { length self.now ≤ 16 }
+        ensures few { length self.now ≤ MOST_CELLS }
     {
         self.cells.len() as u32
     }
