@@ -5,4 +5,5 @@ pub mod Cells
 pub mod Chosen
 pub mod KindLaws
 pub mod Orders
+pub mod Steps
 pub mod Ways

@@ -1,13 +1,15 @@
 -- What holds of all effects and stores.
-use Rattle.std.specs.Prelude.{◌≡◌, ℕ, ◌+◌, ◌^◌, ◌<◌, ◌≤◌, List, unsigned_abs, All}
+use Rattle.std.specs.Prelude.{◌≡◌, ℕ, ◌+◌, ◌^◌, ◌<◌, ◌≤◌, Bool, true, List, unsigned_abs, All}
 use Rattle.std.specs.List.Sorted.{IsPermutation}
 use Rattle.carol_store.specs.declared.shape.CellKind.{CellKind}
 use Rattle.carol_store.specs.declared.effect.Atom.{Atom}
 use Rattle.carol_store.specs.declared.effect.TheConstants.{MOST_AMOUNT, MOST_TARGET}
+use Rattle.carol_store.specs.declared.direction.Direction.{Direction}
 use Rattle.carol_store.specs.Actions.{Commutes}
+use Rattle.carol_store.specs.Directions.{directions, unit_step}
 use Rattle.carol_store.specs.Effects.{IsEffect}
 use Rattle.carol_store.specs.Kinds.{CellValue}
-use Rattle.carol_store.specs.Stores.{StaysInWords, apply, apply_all}
+use Rattle.carol_store.specs.Stores.{IsStore, StaysInWords, apply, apply_all}
 
 -- two effects give the same store in either order
 abbrev pub EffectsCommute : Type 0
@@ -33,3 +35,15 @@ abbrev pub EffectsAddLittle : Type 0
 EffectsAddLittle =
     (shape : List CellKind) (effect : List Atom) (bound : ℕ) (store : List CellValue) → IsEffect shape effect →
     MOST_TARGET ≤ bound → bound + MOST_AMOUNT < 2 ^ 63 → AreWithin bound store → AddsLittle shape effect bound store
+
+-- what is true of a store stays true where it makes one step in the direction
+abbrev pub StepKeeps : List CellKind → (List CellValue → Bool) → Direction → Type 0
+StepKeeps shape holds direction =
+    (store : List CellValue) → IsStore shape store → holds store ≡ true → holds (unit_step shape direction store) ≡ true
+
+-- what each step in a direction of the effect keeps, the effect keeps
+abbrev pub StepsReach : Type 0
+StepsReach =
+    (shape : List CellKind) (effect : List Atom) (holds : List CellValue → Bool) (store : List CellValue) →
+    All (StepKeeps shape holds) (directions shape effect) → IsStore shape store → holds store ≡ true →
+    holds (apply shape effect store) ≡ true

@@ -26,7 +26,10 @@ pub fn direction_of(shape: &Shape, atom: Atom) -> Option<Direction>
 {
     let kind = shape.kinds()[atom.cell as usize];
     match is_up(kind, atom) {
-        Some(up) => Some(Direction { cell: atom.cell, up }),
+        Some(up) => Some(Direction {
+            cell: atom.cell,
+            up,
+        }),
         None => None,
     }
 }
