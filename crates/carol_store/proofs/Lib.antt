@@ -5,5 +5,6 @@ pub mod Cells
 pub mod Chosen
 pub mod KindLaws
 pub mod Orders
+pub mod Rows
 pub mod Steps
 pub mod Ways

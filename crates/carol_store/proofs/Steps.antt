@@ -1,16 +1,16 @@
 -- What single steps keep, an effect keeps.
 use Rattle.std.proofs.Common.{◌≡◌, ℕ, zero, suc, Bool, true, List, [], ◌∷◌, ℤ, Option, Some, None, refl, sym, ◌∙◌, ap}
 use Rattle.std.specs.Prelude.{slice_get, All}
-use Rattle.std.specs.List.{cons_option, filter_map}
+use Rattle.std.specs.List.{cons_option}
 use Rattle.std.specs.Option.{option_and_then, option_map}
 use Rattle.std.proofs.lemmas.List.Elements.{All-head, All-tail}
 use Rattle.carol_store.specs.declared.shape.CellKind.{CellKind}
 use Rattle.carol_store.specs.declared.effect.Atom.{Atom}
 use Rattle.carol_store.specs.declared.direction.Direction.{Direction}
-use Rattle.carol_store.specs.Directions.{direction_of, directions}
+use Rattle.carol_store.specs.Directions.{directions}
 use Rattle.carol_store.specs.Kinds.{CellValue, changed, stepped, way}
 use Rattle.carol_store.specs.Laws.{StepKeeps, StepsReach}
-use Rattle.carol_store.specs.Stores.{IsStore, apply, at_cell, with_cell}
+use Rattle.carol_store.specs.Stores.{IsStore, at_cell, with_cell}
 use Rattle.carol_store.proofs.Cells.{IsStore-at_cell}
 use Rattle.carol_store.proofs.KindLaws.{MayHold-changed, MayHold-stepped, changed_none, changed_some, steps}
 
@@ -70,8 +70,8 @@ atom_keeps shape atom left holds store (Some up) at keep is held =
     )
 
 pub steps_reach : StepsReach
-steps_reach shape [] holds store keep is held = held
-steps_reach shape (atom ∷ atoms) holds store keep is held =
+steps_reach shape [] holds keep store is held = held
+steps_reach shape (atom ∷ atoms) holds keep store is held =
     let one = atom_keeps shape atom (directions shape atoms) holds store (option_and_then (λ kind. way kind atom.value) (slice_get shape atom.cell)) refl keep is held
-    in steps_reach shape atoms holds (with_cell shape atom store) one.1
+    in steps_reach shape atoms holds one.1 (with_cell shape atom store)
     (IsStore-at_cell (λ kind value. changed kind value atom.value) (λ kind value. MayHold-changed kind value atom.value) shape atom.cell store is) one.0

@@ -18,32 +18,37 @@ EffectsCommute = (shape : List CellKind) → Commutes (apply shape)
 -- effects give the same store in whichever order they are applied
 abbrev pub OrderIsFree : Type 0
 OrderIsFree =
-    (shape : List CellKind) (effects others : List (List Atom)) (store : List CellValue) → IsPermutation effects others →
-    apply_all shape others store ≡ apply_all shape effects store
+    (shape : List CellKind) (effects others : List (List Atom)) (store : List CellValue) →
+    IsPermutation effects others → apply_all shape others store ≡ apply_all shape effects store
 
 -- each value is at most this in absolute value
 abbrev pub AreWithin : ℕ → List CellValue → Type 0
 AreWithin bound store = All (λ value. unsigned_abs value ≤ bound) store
 
 -- the effect adds at most the most amount to the bound of a store, and no cell leaves its word
-pub record AddsLittle (shape : List CellKind) (effect : List Atom) (bound : ℕ) (store : List CellValue) : Type 0 where
+pub record AddsLittle
+    (shape : List CellKind) (effect : List Atom) (bound : ℕ) (store : List CellValue) : Type 0 where
   pub within : AreWithin (bound + MOST_AMOUNT) (apply shape effect store)
   pub words : StaysInWords shape effect store
 
--- so does each effect at a store whose bound is no less than the most target, where the sum of both fits a word
+-- so does each effect that fits, at a store whose bound is no less than the most target, where the
+-- raised bound fits a word
 abbrev pub EffectsAddLittle : Type 0
 EffectsAddLittle =
-    (shape : List CellKind) (effect : List Atom) (bound : ℕ) (store : List CellValue) → IsEffect shape effect →
-    MOST_TARGET ≤ bound → bound + MOST_AMOUNT < 2 ^ 63 → AreWithin bound store → AddsLittle shape effect bound store
+    (shape : List CellKind) (effect : List Atom) (bound : ℕ) (store : List CellValue) →
+    IsEffect shape effect → MOST_TARGET ≤ bound → bound + MOST_AMOUNT < 2 ^ 63 →
+    AreWithin bound store → AddsLittle shape effect bound store
 
 -- what is true of a store stays true where it makes one step in the direction
 abbrev pub StepKeeps : List CellKind → (List CellValue → Bool) → Direction → Type 0
 StepKeeps shape holds direction =
-    (store : List CellValue) → IsStore shape store → holds store ≡ true → holds (unit_step shape direction store) ≡ true
+    (store : List CellValue) → IsStore shape store → holds store ≡ true →
+    holds (unit_step shape direction store) ≡ true
 
 -- what each step in a direction of the effect keeps, the effect keeps
 abbrev pub StepsReach : Type 0
 StepsReach =
-    (shape : List CellKind) (effect : List Atom) (holds : List CellValue → Bool) (store : List CellValue) →
-    All (StepKeeps shape holds) (directions shape effect) → IsStore shape store → holds store ≡ true →
+    (shape : List CellKind) (effect : List Atom) (holds : List CellValue → Bool) →
+    All (StepKeeps shape holds) (directions shape effect) →
+    (store : List CellValue) → IsStore shape store → holds store ≡ true →
     holds (apply shape effect store) ≡ true

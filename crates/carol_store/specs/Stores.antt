@@ -13,7 +13,8 @@ IsStore [] (value ∷ values) = ⊥
 IsStore (kind ∷ kinds) [] = ⊥
 
 -- the store with one cell as f makes it, by the cell's kind, and all others as they were
-abbrev pub at_cell : (CellKind → CellValue → CellValue) → List CellKind → ℕ → List CellValue → List CellValue
+abbrev pub at_cell :
+    (CellKind → CellValue → CellValue) → List CellKind → ℕ → List CellValue → List CellValue
 at_cell f (kind ∷ kinds) zero (value ∷ values) = f kind value ∷ values
 at_cell f (kind ∷ kinds) (suc cell) (value ∷ values) = value ∷ at_cell f kinds cell values
 at_cell f [] cell values = values
@@ -21,7 +22,8 @@ at_cell f (kind ∷ kinds) cell [] = []
 
 -- the store after one atom
 abbrev pub with_cell : List CellKind → Atom → List CellValue → List CellValue
-with_cell shape atom store = at_cell (λ kind value. changed kind value atom.value) shape atom.cell store
+with_cell shape atom store =
+    at_cell (λ kind value. changed kind value atom.value) shape atom.cell store
 
 -- the store after each atom of an effect
 abbrev pub apply : List CellKind → List Atom → List CellValue → List CellValue
@@ -39,4 +41,5 @@ AreWords (value ∷ values) = IsWord value × AreWords values
 -- no cell leaves its word while the atoms are applied
 abbrev pub StaysInWords : List CellKind → List Atom → List CellValue → Type 0
 StaysInWords shape [] store = Unit {0}
-StaysInWords shape (atom ∷ atoms) store = AreWords (with_cell shape atom store) × StaysInWords shape atoms (with_cell shape atom store)
+StaysInWords shape (atom ∷ atoms) store =
+    AreWords (with_cell shape atom store) × StaysInWords shape atoms (with_cell shape atom store)

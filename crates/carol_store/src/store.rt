@@ -56,8 +56,8 @@ impl Store {
         Store::of(*self.cells.allocator(), self.cells.as_slice())
     }
 
-    /// Applies each atom of the effect: a counter has the amount added, a peak is the greater of itself and the target,
-    /// and a flag is 1. No counter may leave the range of `i64`.
+    /// Applies each atom of the effect: a counter has the amount added, a peak is the greater of itself
+    /// and the target, and a flag is 1. No counter may leave the range of `i64`.
     pub fn apply(&mut self, shape: &Shape, effect: &Effect)
         requires store { IsStore shape.now self.old }
         requires effect { IsEffect shape.now effect.now }
