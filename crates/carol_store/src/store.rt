@@ -36,11 +36,11 @@ impl Store {
         ensures { result ≡ values.now }
     {
         let _kinds = shape.kinds();
-        Store::of(alloc, values)
+        Store::from_slice(alloc, values)
     }
 
-    // The store of at most sixteen cells.
-    fn of(alloc: Global, values: &[i64]) -> Store
+    /// The store with these values, of which there are at most sixteen, whatever a shape says of them.
+    pub fn from_slice(alloc: Global, values: &[i64]) -> Store
         requires { length values.now ≤ MOST_CELLS }
         ensures { result ≡ values.now }
     {
@@ -53,7 +53,7 @@ impl Store {
     pub fn copy(&self) -> Store
         ensures { result ≡ self.now }
     {
-        Store::of(*self.cells.allocator(), self.cells.as_slice())
+        Store::from_slice(*self.cells.allocator(), self.cells.as_slice())
     }
 
     /// Applies each atom of the effect: a counter has the amount added, a peak is the greater of itself
