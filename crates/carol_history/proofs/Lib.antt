@@ -1,4 +1,3 @@
-pub mod Chosen
 pub mod Holdings
 pub mod Orders
 pub mod Small

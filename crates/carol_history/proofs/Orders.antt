@@ -7,17 +7,20 @@ use Rattle.std.proofs.lemmas.Option.{slice_get-get_or}
 use Rattle.std.proofs.Common.{get_or}
 use Rattle.carol_store.specs.declared.shape.CellKind.{CellKind}
 use Rattle.carol_store.specs.declared.effect.Atom.{Atom}
+use Rattle.carol_store.specs.Actions.{chosen_from}
 use Rattle.carol_store.specs.Laws.{EffectsCommute}
-use Rattle.carol_store.specs.Stores.{apply}
+use Rattle.carol_store.specs.Stores.{apply, with_cell}
+use Rattle.carol_store.proofs.Actions.{act_all-append}
+use Rattle.carol_store.proofs.Chosen.{act_all-chosen, chosen_from-same, chosen_from-all, chosen_from-push}
 use Rattle.carol_history.specs.declared.event.PlainEvent.{PlainEvent}
 use Rattle.carol_history.specs.declared.event.PlainEvent.TheVariants.{Issue, Return, Deliver}
 use Rattle.carol_history.specs.Setup.{Setup}
 use Rattle.carol_history.specs.Journal.{journal, is_at, is_held}
 use Rattle.carol_history.specs.Laws.{OrdersAgree, ReplicasAgree}
-use Rattle.carol_history.specs.Stores.{chosen_from, held_store, local}
+use Rattle.carol_history.specs.Stores.{held_store, local}
 use Rattle.carol_history.specs.Runs.{Run}
 use Rattle.carol_history.proofs.Holdings.{issues, held_within, not_held}
-use Rattle.carol_history.proofs.Chosen.{chosen_from-same, chosen_from-all, chosen_from-push, apply-append, apply-chosen}
+
 
 -- a new entry, which this replica holds or does not
 issue_at : (shape : List CellKind) (b : Bool) (f : ℕ → Bool) (i : ℕ) (atoms : List Atom) (atom : Atom) (store : List ℤ) → i ≡ length atoms → f (length atoms) ≡ false →
@@ -29,7 +32,7 @@ issue_at shape b f i atoms atom store number off =
     chosen_from-same g f 0 atoms (λ e low high. let no : eqb i e ≡ false = ne_eqb i e (λ q. omega arith) in rw no refl)
     in let yes : eqb i (length atoms) ≡ true = eq-eqb i (length atoms) number
     in sym (ap (λ (xs : List Atom). apply shape xs store) (chosen_from-push g 0 atoms atom)
-    ∙ apply-append shape (chosen_from g 0 atoms) (cond (g (0 + length atoms)) (atom ∷ []) []) store
+    ∙ act_all-append (with_cell shape) (chosen_from g 0 atoms) (cond (g (0 + length atoms)) (atom ∷ []) []) store
     ∙ rw (same, zero-add, yes, off) (last b (apply shape (chosen_from f 0 atoms) store)))
   where
     last : (b : Bool) (y : List ℤ) → apply shape (cond ((true && b) || false) (atom ∷ []) []) y ≡ cond b (apply shape (atom ∷ []) y) y
@@ -45,7 +48,7 @@ deliver_here commute shape f i atoms atom store at off =
     in let yes : eqb i i ≡ true = eq-eqb i i refl
     in let on : g (0 + i) ≡ true = rw (zero-add, yes) refl
     in let others : (e : ℕ) → e ≢ 0 + i → g e ≡ f e = λ e ne. let no : eqb i e ≡ false = ne_eqb i e (λ q. ne (omega arith)) in rw no refl
-    in rw at (sym (apply-chosen commute shape f g 0 i atoms atom store at off' on others))
+    in rw at (sym (act_all-chosen (with_cell shape) (λ a b. commute shape (a ∷ []) (b ∷ [])) f g 0 i atoms atom store at off' on others))
 
 -- an entry that comes to another replica
 deliver_there : (shape : List CellKind) (f : ℕ → Bool) (i : ℕ) (atoms : List Atom) (store : List ℤ) → apply shape (chosen_from f 0 atoms) store ≡ apply shape (chosen_from (λ e. (eqb i e && false) || f e) 0 atoms) store

@@ -1,7 +1,8 @@
 -- The stores that a history leaves.
-use Rattle.std.specs.Prelude.{ℕ, ◌+◌, Bool, ◌==◌, if◌then◌else◌, List, [], ◌∷◌, ℤ, slice_get}
+use Rattle.std.specs.Prelude.{ℕ, ◌==◌, if◌then◌else◌, List, [], ◌∷◌, ℤ, slice_get}
 use Rattle.std.specs.Option.{option_to_list}
 use Rattle.carol_store.specs.declared.effect.Atom.{Atom}
+use Rattle.carol_store.specs.Actions.{chosen_from}
 use Rattle.carol_store.specs.Stores.{apply}
 use Rattle.carol_history.specs.declared.event.PlainEvent.{PlainEvent}
 use Rattle.carol_history.specs.declared.event.PlainEvent.TheVariants.{Issue, Return, Deliver}
@@ -28,12 +29,6 @@ local setup replica (Deliver source target entry ∷ past) =
 -- the global store: the initial one with the whole journal applied
 abbrev pub global : Setup → List PlainEvent → List ℤ
 global setup past = apply setup.shape (journal past) setup.initial
-
--- of these entries, numbered from k, those that are chosen
-abbrev pub chosen_from : (ℕ → Bool) → ℕ → List Atom → List Atom
-chosen_from chosen k [] = []
-chosen_from chosen k (atom ∷ atoms) =
-    if chosen k then atom ∷ chosen_from chosen (k + 1) atoms else chosen_from chosen (k + 1) atoms
 
 -- the initial store with the entries applied that the replica holds, in the journal's order
 abbrev pub held_store : Setup → ℕ → List PlainEvent → List ℤ

@@ -4,7 +4,7 @@ ghost use Rattle.carol_history.specs.Setup.{Setup};
 ghost use Rattle.carol_history.specs.Runs.{Run};
 ghost use Rattle.carol_history.specs.Laws.{HeldAreEntries, OrdersAgree, ReplicasAgree, StaysSmall};
 
-use carol_store::effects_commute;
+use carol_store::store_laws;
 
 /// What holds of all histories that can be made: in which order entries come to a replica makes no
 /// difference, replicas that hold the same entries are equal, and counters stay small. It does
@@ -17,5 +17,5 @@ pub fn history_laws()
         → HeldAreEntries setup past }
     ensures small { StaysSmall }
 {
-    effects_commute();
+    store_laws();
 }

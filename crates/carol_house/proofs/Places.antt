@@ -7,7 +7,7 @@ use Rattle.std.proofs.lemmas.Iterator.Adapters.{position_from-zero}
 use Rattle.carol_store.specs.declared.shape.CellKind.{CellKind}
 use Rattle.carol_store.specs.declared.effect.Atom.{Atom}
 use Rattle.carol_store.specs.Stores.{IsStore, AreWords, StaysInWords, apply, with_cell}
-use Rattle.carol_history.specs.Stores.{chosen_from}
+use Rattle.carol_store.specs.Actions.{chosen_from}
 use Rattle.carol_history.specs.Runs.{least_from}
 use Rattle.carol_house.specs.declared.tables.Entry.{Entry}
 use Rattle.carol_house.specs.Places.{is_taken, taken_atoms}
@@ -62,11 +62,6 @@ taken_chosen place f k (x ∷ xs) h =
     at : (b : Bool) → taken_atoms place xs ≡ chosen_from f (k + 1) (map (λ e. e.atom) xs) → map (λ e. e.atom) (cond b (x ∷ filter (is_taken place) xs) (filter (is_taken place) xs)) ≡ cond b (x.atom ∷ chosen_from f (k + 1) (map (λ e. e.atom) xs)) (chosen_from f (k + 1) (map (λ e. e.atom) xs))
     at true e = ap (λ (r : List Atom). x.atom ∷ r) e
     at false e = e
-
--- where all are chosen
-pub chosen_all : (k : ℕ) (atoms : List Atom) → chosen_from (λ _. true) k atoms ≡ atoms
-chosen_all k [] = refl
-chosen_all k (atom ∷ atoms) = ap (λ (r : List Atom). atom ∷ r) (chosen_all (k + 1) atoms)
 
 -- the first place at which a test of the entries passes is the least number at which a test of the numbers does
 pub position-least : (p : Entry → Bool) (test : ℕ → Bool) (entries : List Entry) → ((i : ℕ) (e : Entry) → slice_get entries i ≡ Some e → p e ≡ test i) → position p entries ≡ least_from test 0 (length entries)

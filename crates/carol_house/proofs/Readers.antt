@@ -6,20 +6,22 @@ use Rattle.std.proofs.lemmas.Bool.{and_parts, not-true}
 use Rattle.std.proofs.lemmas.List.Elements.{All-nil, All-cons, All-head, All-tail}
 use Rattle.carol_store.specs.declared.effect.Atom.{Atom}
 use Rattle.carol_store.specs.Effects.{IsAtomOf}
+use Rattle.carol_store.specs.Actions.{chosen_from}
 use Rattle.carol_store.specs.Stores.{apply}
+use Rattle.carol_store.proofs.Chosen.{chosen_from-all}
 use Rattle.carol_history.specs.declared.event.PlainEvent.{PlainEvent}
 use Rattle.carol_history.specs.Journal.{journal, is_held}
 use Rattle.carol_history.specs.Laws.{EntriesAreSmall, IsSmall, OrdersAgree, StaysSmall}
 use Rattle.carol_history.specs.Runs.{Run, MayDeliver, least_from, is_missing, lowest_missing}
 use Rattle.carol_history.specs.Setup.{Setup}
-use Rattle.carol_history.specs.Stores.{chosen_from, global, local}
+use Rattle.carol_history.specs.Stores.{global, local}
 use Rattle.carol_house.specs.declared.tables.Entry.{Entry}
 use Rattle.carol_house.specs.declared.tables.Progress.{Progress}
 use Rattle.carol_house.specs.House.{House}
 use Rattle.carol_house.specs.Places.{is_lent, taken_atoms}
 use Rattle.carol_house.specs.Tables.{AreTables, IsKept, flag_at}
 use Rattle.carol_house.proofs.Kept.{entries_low}
-use Rattle.carol_house.proofs.Places.{chosen_all, position-least, taken_chosen}
+use Rattle.carol_house.proofs.Places.{position-least, taken_chosen}
 use Rattle.carol_house.proofs.Steps.{length-entries}
 
 -- what an entry of the table says of a replica
@@ -76,6 +78,9 @@ taken_held old entries progress replica kept inside =
     (λ i e at. flag_is old.setup old.history entries progress replica i e kept.tables low at ∙ ap (λ (n : ℕ). is_held old.setup.sessions replica n old.history) (sym (zero-add i)))
     ∙ ap (chosen_from (λ entry. is_held old.setup.sessions replica entry old.history) 0) kept.tables.atoms
 
+all_chosen : (atoms : List Atom) → chosen_from (λ _. true) 0 atoms ≡ atoms
+all_chosen atoms = chosen_from-all (λ _. true) 0 atoms (λ i low high. refl)
+
 pub taken_all : (old : House) (entries : List Entry) (progress : List Progress) → IsKept old entries progress → taken_atoms None entries ≡ chosen_from (λ _. true) 0 (journal old.history)
 taken_all old entries progress kept =
     taken_chosen None (λ _. true) 0 entries (λ i e at. refl) ∙ ap (chosen_from (λ _. true) 0) kept.tables.atoms
@@ -94,12 +99,12 @@ local_is old entries progress replica law kept inside =
 
 pub global_is : (old : House) (entries : List Entry) (progress : List Progress) → IsKept old entries progress → apply old.setup.shape (taken_atoms None entries) old.setup.initial ≡ global old.setup old.history
 global_is old entries progress kept =
-    ap (λ (atoms : List Atom). apply old.setup.shape atoms old.setup.initial) (taken_all old entries progress kept ∙ chosen_all 0 (journal old.history))
+    ap (λ (atoms : List Atom). apply old.setup.shape atoms old.setup.initial) (taken_all old entries progress kept ∙ all_chosen (journal old.history))
 
 pub global_small : (old : House) (entries : List Entry) (progress : List Progress) → StaysSmall → IsKept old entries progress → All IsSmall (global old.setup old.history)
 global_small old entries progress law kept =
     let small : All IsSmall (apply old.setup.shape (chosen_from (λ _. true) 0 (journal old.history)) old.setup.initial) = (small_of old entries progress law kept).small (λ _. true)
-    in rw (chosen_all 0 (journal old.history)) at small
+    in rw (all_chosen (journal old.history)) at small
 
 -- an earlier history is one that can be made too
 pub Run-drop : (setup : Setup) (count : ℕ) (past : List PlainEvent) → Run setup past → Run setup (drop count past)

@@ -1,3 +1,10 @@
+pub mod Actions
 pub mod Atoms
+pub mod Bounds
 pub mod Cells
+pub mod Chosen
+pub mod KindLaws
 pub mod Orders
+pub mod Rows
+pub mod Steps
+pub mod Ways

@@ -1,13 +1,17 @@
--- Which lists of atoms fit a shape.
-use Rattle.std.specs.Prelude.{ℕ, ◌+◌, ◌≤◌, zero, suc, List, [], ◌∷◌, ℤ, unsigned_abs}
+-- Which lists of atoms are effects, and which fit a shape.
+use Rattle.std.specs.Prelude.{ℕ, ◌+◌, ◌≤◌, zero, suc, List, [], ◌∷◌, ℤ}
 use Rattle.carol_store.specs.declared.shape.CellKind.{CellKind}
-use Rattle.carol_store.specs.declared.shape.CellKind.TheVariants.{Counter}
 use Rattle.carol_store.specs.declared.effect.Atom.{Atom}
-use Rattle.carol_store.specs.declared.effect.TheConstants.{MOST_AMOUNT}
+use Rattle.carol_store.specs.Kinds.{IsAmount}
 
--- an atom may have this value at a cell of this kind
-abbrev pub IsAmount : CellKind → ℤ → Type 0
-IsAmount Counter amount = unsigned_abs amount ≤ MOST_AMOUNT
+-- the cells ascend strictly, the first being this one or above
+abbrev pub AscendsFrom : ℕ → List Atom → Type 0
+AscendsFrom least [] = Unit {0}
+AscendsFrom least (atom ∷ atoms) = (least ≤ atom.cell) × AscendsFrom (atom.cell + 1) atoms
+
+-- the cells ascend strictly
+abbrev pub Ascends : List Atom → Type 0
+Ascends atoms = AscendsFrom 0 atoms
 
 -- the shape has the cell, where an atom may have this value
 abbrev pub IsAmountAt : List CellKind → ℕ → ℤ → Type 0
@@ -19,11 +23,11 @@ IsAmountAt (kind ∷ kinds) (suc cell) amount = IsAmountAt kinds cell amount
 abbrev pub IsAtomOf : List CellKind → Atom → Type 0
 IsAtomOf shape atom = IsAmountAt shape atom.cell atom.value
 
--- each atom fits the shape, at a cell above those of the atoms before it, the first at this cell or above
-abbrev pub IsEffectFrom : ℕ → List CellKind → List Atom → Type 0
-IsEffectFrom least shape [] = Unit {0}
-IsEffectFrom least shape (atom ∷ atoms) = (least ≤ atom.cell) × IsAtomOf shape atom × IsEffectFrom (atom.cell + 1) shape atoms
+-- each atom fits the shape
+abbrev pub AreAtomsOf : List CellKind → List Atom → Type 0
+AreAtomsOf shape [] = Unit {0}
+AreAtomsOf shape (atom ∷ atoms) = IsAtomOf shape atom × AreAtomsOf shape atoms
 
--- the atoms fit the shape, in ascending order of their cells
+-- the atoms are an effect that fits the shape
 abbrev pub IsEffect : List CellKind → List Atom → Type 0
-IsEffect shape atoms = IsEffectFrom 0 shape atoms
+IsEffect shape atoms = Ascends atoms × AreAtomsOf shape atoms

@@ -1,52 +1,45 @@
 -- What a store of a shape is, and what an effect makes of it.
-use Rattle.std.specs.Prelude.{ℕ, zero, suc, List, [], ◌∷◌, ℤ, ◌+ℤ◌, FitsSigned}
-use Rattle.std.specs.Int.{w64}
+use Rattle.std.specs.Prelude.{ℕ, zero, suc, List, [], ◌∷◌}
 use Rattle.carol_store.specs.declared.shape.CellKind.{CellKind}
-use Rattle.carol_store.specs.declared.shape.CellKind.TheVariants.{Counter}
 use Rattle.carol_store.specs.declared.effect.Atom.{Atom}
+use Rattle.carol_store.specs.Actions.{act_all}
+use Rattle.carol_store.specs.Kinds.{CellValue, IsWord, MayHold, changed}
 
--- a cell of this kind may hold the number
-abbrev pub MayHold : CellKind → ℤ → Type 0
-MayHold Counter number = Unit {0}
-
--- the store gives each cell of the shape one number
-abbrev pub IsStore : List CellKind → List ℤ → Type 0
+-- the store gives each cell of the shape one value that it may hold
+abbrev pub IsStore : List CellKind → List CellValue → Type 0
 IsStore [] [] = Unit {0}
-IsStore (kind ∷ kinds) (number ∷ numbers) = MayHold kind number × IsStore kinds numbers
-IsStore [] (number ∷ numbers) = ⊥
+IsStore (kind ∷ kinds) (value ∷ values) = MayHold kind value × IsStore kinds values
+IsStore [] (value ∷ values) = ⊥
 IsStore (kind ∷ kinds) [] = ⊥
 
--- what an atom's value makes of the number in a cell of this kind
-abbrev pub changed : CellKind → ℤ → ℤ → ℤ
-changed Counter number amount = number +ℤ amount
-
--- the store with one cell changed, and all others as they were
-abbrev pub with_change : List CellKind → ℕ → ℤ → List ℤ → List ℤ
-with_change (kind ∷ kinds) zero amount (number ∷ numbers) = changed kind number amount ∷ numbers
-with_change (kind ∷ kinds) (suc cell) amount (number ∷ numbers) = number ∷ with_change kinds cell amount numbers
-with_change [] cell amount numbers = numbers
-with_change (kind ∷ kinds) cell amount [] = []
+-- the store with one cell as f makes it, by the cell's kind, and all others as they were
+abbrev pub at_cell :
+    (CellKind → CellValue → CellValue) → List CellKind → ℕ → List CellValue → List CellValue
+at_cell f (kind ∷ kinds) zero (value ∷ values) = f kind value ∷ values
+at_cell f (kind ∷ kinds) (suc cell) (value ∷ values) = value ∷ at_cell f kinds cell values
+at_cell f [] cell values = values
+at_cell f (kind ∷ kinds) cell [] = []
 
 -- the store after one atom
-abbrev pub with_cell : List CellKind → Atom → List ℤ → List ℤ
-with_cell shape atom store = with_change shape atom.cell atom.value store
+abbrev pub with_cell : List CellKind → Atom → List CellValue → List CellValue
+with_cell shape atom store =
+    at_cell (λ kind value. changed kind value atom.value) shape atom.cell store
 
 -- the store after each atom of an effect
-abbrev pub apply : List CellKind → List Atom → List ℤ → List ℤ
-apply shape [] store = store
-apply shape (atom ∷ atoms) store = apply shape atoms (with_cell shape atom store)
+abbrev pub apply : List CellKind → List Atom → List CellValue → List CellValue
+apply shape atoms store = act_all (with_cell shape) atoms store
 
 -- the store after one effect after another
-abbrev pub apply_all : List CellKind → List (List Atom) → List ℤ → List ℤ
-apply_all shape [] store = store
-apply_all shape (effect ∷ effects) store = apply_all shape effects (apply shape effect store)
+abbrev pub apply_all : List CellKind → List (List Atom) → List CellValue → List CellValue
+apply_all shape effects store = act_all (apply shape) effects store
 
--- each number is a word of 64 bits with a sign
-abbrev pub AreWords : List ℤ → Type 0
+-- each value fits its word
+abbrev pub AreWords : List CellValue → Type 0
 AreWords [] = Unit {0}
-AreWords (number ∷ numbers) = FitsSigned w64 number × AreWords numbers
+AreWords (value ∷ values) = IsWord value × AreWords values
 
--- no counter leaves that range while the atoms are applied
-abbrev pub StaysInWords : List CellKind → List Atom → List ℤ → Type 0
+-- no cell leaves its word while the atoms are applied
+abbrev pub StaysInWords : List CellKind → List Atom → List CellValue → Type 0
 StaysInWords shape [] store = Unit {0}
-StaysInWords shape (atom ∷ atoms) store = AreWords (with_cell shape atom store) × StaysInWords shape atoms (with_cell shape atom store)
+StaysInWords shape (atom ∷ atoms) store =
+    AreWords (with_cell shape atom store) × StaysInWords shape atoms (with_cell shape atom store)

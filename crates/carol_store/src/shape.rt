@@ -1,11 +1,8 @@
 ghost use Rattle.std.specs.Prelude.{◌≡◌, ◌≤◌, length};
 
-use smallvec::SmallVec;
+use crate::short_list::{MOST_CELLS, ShortList};
 use std::alloc::Global;
 use std::marker::Model;
-
-/// How many cells a shape has at most.
-pub const MOST_CELLS: usize = 16;
 
 /// What a cell holds, and how an atom changes it.
 #[derive(Clone, Copy, Debug, Default, PartialEq, Eq)]
@@ -13,23 +10,25 @@ pub enum CellKind {
     /// A whole number, to which an atom adds its amount.
     #[default]
     Counter,
+    /// A whole number, which an atom raises to its target, where that is greater.
+    Peak,
+    /// 0 or 1, which an atom makes 1.
+    Flag,
 }
 
 /// The kinds of a program's cells, in their order. Contracts see it as that list.
 #[derive(Drop)]
 pub struct Shape {
-    kinds: SmallVec<CellKind, 16>,
+    kinds: ShortList<CellKind>,
 }
 
 impl Model for Shape {
-    ghost use Rattle.std.specs.Prelude.{List, ◌≡◌, ◌≤◌, length};
+    ghost use Rattle.std.specs.Prelude.{List};
     ghost use Rattle.carol_store.specs.declared.shape.CellKind.{CellKind};
 
     ghost Value = { List CellKind };
 
-    ghost view = { λ s. s.kinds.items };
-
-    ghost invariant = { λ s. length s.kinds.items ≤ 16 };
+    ghost view = { λ s. s.kinds };
 }
 
 impl Shape {
@@ -39,7 +38,7 @@ impl Shape {
         ensures { result ≡ kinds.now }
     {
         Shape {
-            kinds: SmallVec::from_slice(alloc, kinds).unwrap(),
+            kinds: ShortList::from_slice(alloc, kinds),
         }
     }
 
@@ -47,7 +46,9 @@ impl Shape {
     pub fn copy(&self) -> Shape
         ensures { result ≡ self.now }
     {
-        Shape::new(*self.kinds.allocator(), self.kinds())
+        Shape {
+            kinds: self.kinds.copy(),
+        }
     }
 
     /// The kinds of the cells, in their order.

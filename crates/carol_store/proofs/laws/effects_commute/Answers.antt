@@ -1,8 +1,0 @@
-use Rattle.carol_store.proofs.Orders.{commutes, order_is_free}
-use Rattle.carol_store.proofs.laws.effects_commute.Goals as goal
-
-pub returns-clause-two : goal.returns-clause-two
-returns-clause-two c = commutes
-
-pub returns-clause-all : goal.returns-clause-all
-returns-clause-all c = order_is_free
