@@ -21,7 +21,6 @@ use Rattle.carol_history.specs.Stores.{held_store, local}
 use Rattle.carol_history.specs.Runs.{Run}
 use Rattle.carol_history.proofs.Holdings.{issues, held_within, not_held}
 
-
 -- a new entry, which this replica holds or does not
 issue_at : (shape : List CellKind) (b : Bool) (f : ℕ → Bool) (i : ℕ) (atoms : List Atom) (atom : Atom) (store : List ℤ) → i ≡ length atoms → f (length atoms) ≡ false →
     cond b (apply shape (atom ∷ []) (apply shape (chosen_from f 0 atoms) store)) (apply shape (chosen_from f 0 atoms) store)

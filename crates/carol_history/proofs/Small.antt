@@ -88,7 +88,7 @@ pub stays_small : EffectsAddLittle → StaysSmall
 stays_small law setup past is run few =
     let fit : All (IsAtomOf setup.shape) (journal past) = journal_fits setup past is run
     in let adds = λ (chosen : ℕ → Bool). atoms_add law setup.shape (chosen_from chosen 0 (journal past)) 1_000_000_000_000 setup.initial
-        (All-chosen_from (IsAtomOf setup.shape) chosen 0 (journal past) fit) (omega arith) (omega (arith, few_chosen chosen past few)) is.start
+    (All-chosen_from (IsAtomOf setup.shape) chosen 0 (journal past) fit) (omega arith) (omega (arith, few_chosen chosen past few)) is.start
     in record {
       fit = fit;
       words = λ chosen. (adds chosen).1;
