@@ -12,7 +12,7 @@ use Rattle.carol_tool.specs.Says.{Says}
 use Rattle.carol_tool.specs.Step.{FileSays, StepSays, script_answer}
 use Rattle.carol_tool.specs.Texts.{Answer}
 use Rattle.carol_tool.specs.Words.{command_of}
-use Rattle.carol_tool.specs.declared.call.TheConstants.{MOST_BYTES}
+use Rattle.carol_syntax.specs.Limits.{most_text_bytes}
 use Rattle.carol_tool.specs.declared.command.Command.{Command}
 use Rattle.carol_tool.specs.declared.command.Command.TheVariants as command
 use Rattle.carol_tool.specs.declared.status.Status.{Status}
@@ -38,7 +38,7 @@ step_own bytes answer (Large limit, m, h) = subst (λ a. IsOwn a.0) (sym h) tt
 
 -- of such a status, that the command says it is what it means
 own_means : (command : Command) (bytes : List ℕ) (old new : End) (meant : Status) (text : List ℕ) → IsOwn meant
-    → length bytes ≤ MOST_BYTES → Says command bytes meant text → Means command bytes old new meant text
+    → length bytes ≤ most_text_bytes → Says command bytes meant text → Means command bytes old new meant text
 own_means command bytes old new status.Usage text own short h = absurd own
 own_means command bytes old new status.ReadFault text own short h = absurd own
 own_means command bytes old new status.WriteFault text own short h = absurd own
@@ -52,7 +52,7 @@ within_from n m h = grind arith
 
 -- all bytes were read, and the answer is the only one to them
 pub meant_by_step : (words : List (List ℕ)) (old new : End) (bytes buffer : List ℕ) (command : Command) (answer : Answer)
-    → command_of words ≡ Some command → Consumes old.bytes new.bytes bytes → length bytes ≤ MOST_BYTES → buffer ≡ bytes
+    → command_of words ≡ Some command → Consumes old.bytes new.bytes bytes → length bytes ≤ most_text_bytes → buffer ≡ bytes
     → IsAtEnd new.bytes → old.faults ≤ new.faults → IsSole (StepSays buffer) answer → Meant words old new answer.0 answer.1
 meant_by_step words old new bytes buffer command.Step answer is given short same end counted sole = record {
   bytes = bytes;

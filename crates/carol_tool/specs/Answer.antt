@@ -5,7 +5,7 @@ use Rattle.carol_outer.specs.Faults.{Rose}
 use Rattle.carol_tool.specs.Says.{Says, ReadsAll, FixesStatus, FixesText}
 use Rattle.carol_tool.specs.Texts.{stop_answer}
 use Rattle.carol_tool.specs.Words.{command_of}
-use Rattle.carol_tool.specs.declared.call.TheConstants.{MOST_BYTES}
+use Rattle.carol_syntax.specs.Limits.{most_text_bytes}
 use Rattle.carol_tool.specs.declared.command.Command.{Command}
 use Rattle.carol_tool.specs.declared.reply.Stop.TheVariants as stop
 use Rattle.carol_tool.specs.declared.status.Status.{Status}
@@ -35,13 +35,13 @@ abbrev pub Means : Command → List ℕ → End → End → Status → List ℕ 
 Means command bytes old new status.Usage text = ⊥
 Means command bytes old new status.WriteFault text = ⊥
 Means command bytes old new status.ReadFault text =
-    (length bytes ≤ MOST_BYTES) × (text ≡ (stop_answer stop.ReadFault).1)
+    (length bytes ≤ most_text_bytes) × (text ≡ (stop_answer stop.ReadFault).1)
     × Rose old.faults new.faults
 Means command bytes old new status.NoMemory text =
-    (length bytes ≤ MOST_BYTES) × (text ≡ (stop_answer stop.NoMemory).1)
+    (length bytes ≤ most_text_bytes) × (text ≡ (stop_answer stop.NoMemory).1)
 Means command bytes old new status.TooLong text =
-    (MOST_BYTES < length bytes) × (text ≡ (stop_answer stop.TooLong).1)
-Means command bytes old new meant text = (length bytes ≤ MOST_BYTES) × Says command bytes meant text
+    (most_text_bytes < length bytes) × (text ≡ (stop_answer stop.TooLong).1)
+Means command bytes old new meant text = (length bytes ≤ most_text_bytes) × Says command bytes meant text
 
 -- What a command comes to.
 pub record Done (command : Command) (bytes : List ℕ) (old new : End) (meant : Status)

@@ -10,12 +10,10 @@ use super::reply::{Reply, Stop};
 use super::status::Status;
 use super::step::step;
 use carol_outer::{Gate, Sink, Source, read_all, write_all};
+use carol_syntax::MOST_TEXT_BYTES;
 use std::alloc::Global;
 use std::sync::Wait;
 use std::thread::Threads;
-
-/// The most bytes that an input has.
-pub const MOST_BYTES: usize = 67_108_864;
 
 /// Does what the words of a command line say, of which the single word `run` is no part: reads the
 /// source, writes one text to the sink and answers the status. `ReadFault` and `WriteFault` come
@@ -92,7 +90,7 @@ fn reply<S: Source>(alloc: Global, words: &[Vec<u8>], source: &mut S) -> Result<
         answer.0 answer.1 }
 {
     let command = command_of(words).ok_or(Stop::Usage)?;
-    let bytes = read_all(alloc, source, MOST_BYTES)?;
+    let bytes = read_all(alloc, source, MOST_TEXT_BYTES)?;
     match command {
         Command::Step => Ok(step(alloc, &bytes)?),
     }

@@ -9,5 +9,5 @@ mod step;
 #[cfg(test)]
 mod tests;
 
-pub use call::{MOST_BYTES, carol, plain};
+pub use call::{carol, plain};
 pub use status::{Status, number};

@@ -3,11 +3,11 @@ ghost use Rattle.carol_store.specs.declared.shape.CellKind.TheVariants.{Counter}
 ghost use Rattle.carol_history.specs.Scripts.{scripted};
 ghost use Rattle.carol_history.specs.Setup.{IsSetup};
 ghost use Rattle.carol_syntax.specs.Files.{file_tree};
+ghost use Rattle.carol_syntax.specs.Limits.{most_text_bytes};
 ghost use Rattle.carol_plain.specs.Start.{setup_of};
 ghost use Rattle.carol_tool.specs.Reply.{RepliesBy, answer_of};
 ghost use Rattle.carol_tool.specs.Step.{StepSays, FileSays, HasParts, script_answer};
 
-use super::call::MOST_BYTES;
 use super::command::Command;
 use super::reply::{Line, Reply, one_line};
 use super::status::Status;
@@ -21,7 +21,7 @@ use std::alloc::{AllocError, Global};
 
 /// Reads a program, a scene and a script, and says what the script's history is.
 pub(crate) fn step(alloc: Global, bytes: &[u8]) -> Result<Reply, AllocError>
-    requires { length bytes.now ≤ MOST_BYTES }
+    requires { length bytes.now ≤ most_text_bytes }
     ensures { RepliesBy (StepSays bytes.now) result }
 {
     match parse(alloc, bytes) {
