@@ -1,9 +1,11 @@
 -- Statements and bodies.
 use Rattle.std.proofs.Common.{ℕ, List}
 use Rattle.std.specs.List.{AllByRecursion}
+use Rattle.carol_grammar.proofs.Says.{says_either, says_begins, says_deeper}
+use Rattle.carol_grammar.proofs.Given.{hold_any, hold_gives, hold_both, hold_many, hold_behind, hold_before}
 use Rattle.carol_syntax.specs.Shape.{IsChange, IsAtom, IsStatement, IsBody}
 use Rattle.carol_syntax_rules.specs.Rules.{ending, change, atom, query, release, binding, issue, plain, plains, body, answer, choice}
-use Rattle.carol_parse.proofs.Holds.{Fits, Holds, hold_any, hold_gives, hold_both, hold_either, hold_many, hold_begins, hold_deeper, hold_behind, hold_before, hold_listed}
+use Rattle.carol_parse.proofs.Holds.{Fits, Holds, hold_listed}
 use Rattle.carol_parse.proofs.Terminals.{hold_name}
 use Rattle.carol_parse.proofs.Terms.{hold_path, hold_term}
 use Rattle.carol_parse.proofs.Formulas.{hold_formula}
@@ -12,9 +14,9 @@ module _ {bytes : List ℕ} where
   hold_change : Holds bytes (change bytes) IsChange
   unfolding change
   hold_change =
-      hold_either (hold_gives (hold_behind hold_term) (λ t h. h))
-      (hold_either (hold_gives (hold_behind hold_term) (λ t h. h))
-      (hold_either (hold_gives (hold_behind hold_term) (λ t h. h)) (hold_gives hold_any (λ l h. tt))))
+      says_either (hold_gives (hold_behind hold_term) (λ t h. h))
+      (says_either (hold_gives (hold_behind hold_term) (λ t h. h))
+      (says_either (hold_gives (hold_behind hold_term) (λ t h. h)) (hold_gives hold_any (λ l h. tt))))
 
   hold_atom : Holds bytes (atom bytes) IsAtom
   unfolding atom
@@ -39,16 +41,16 @@ module _ {bytes : List ℕ} where
   hold_statement : Holds bytes (plain bytes) IsStatement
   unfolding plain
   hold_statement =
-      hold_either (hold_begins hold_query)
-      (hold_either (hold_begins hold_release) (hold_either (hold_begins hold_binding) hold_issue))
+      says_either (says_begins hold_query)
+      (says_either (says_begins hold_release) (says_either (says_begins hold_binding) hold_issue))
 
   hold_statements : Holds bytes (plains bytes) (AllByRecursion IsStatement)
-  hold_statements = hold_many (hold_begins hold_statement)
+  hold_statements = hold_many (says_begins hold_statement)
 
   pub hold_body : Holds bytes (body bytes) IsBody
   unfolding body
   hold_body =
-      hold_gives (hold_behind (hold_both hold_statements (hold_before (hold_deeper ending)))) (λ p h. h.1 p.0 h.0)
+      hold_gives (hold_behind (hold_both hold_statements (hold_before (says_deeper ending)))) (λ p h. h.1 p.0 h.0)
 
   pub hold_answer : Holds bytes (answer bytes) (Fits ending)
   unfolding answer

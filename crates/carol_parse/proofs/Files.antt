@@ -1,15 +1,16 @@
 -- Files.
-use Rattle.std.proofs.Common.{ℕ, zero, suc, List, Option, refl}
+use Rattle.std.proofs.Common.{ℕ, List, [], Option, refl}
 use Rattle.std.specs.Prelude.{Some, None, IfSome}
 use Rattle.std.specs.List.{AllByRecursion}
 use Rattle.carol_grammar.specs.Rule.{upper}
-use Rattle.carol_grammar.specs.Sentence.{Deep}
+use Rattle.carol_grammar.proofs.Says.{says_either, says_begins, says_all}
+use Rattle.carol_grammar.proofs.Given.{hold_any, hold_gives, hold_both, hold_perhaps}
 use Rattle.carol_syntax.specs.declared.scenes.SceneDecl.{SceneDecl}
 use Rattle.carol_syntax.specs.Files.{ProgramTree, FileTree}
 use Rattle.carol_syntax.specs.Shape.{IsLine, IsProgram, IsScene, IsFile}
 use Rattle.carol_syntax_tokens.specs.declared.lexeme.Lexeme.{Lexeme}
 use Rattle.carol_syntax_rules.specs.Rules.{Knot, literal, ending, Sequel, Scripted, Recorded, carol, lowest_of, sequel, some_sequel, staged, some_stage, with_sequel, file_of, file, IsFileOf}
-use Rattle.carol_parse.proofs.Holds.{AreSpelled, Fits, AllFit, Holds, hold_any, hold_gives, hold_both, hold_either, hold_perhaps, hold_begins}
+use Rattle.carol_parse.proofs.Holds.{AreSpelled, stand_spelled, Fits, AllFit, Holds}
 use Rattle.carol_parse.proofs.Formulas.{hold_atom_literal, hold_nested}
 use Rattle.carol_parse.proofs.Bodies.{hold_answer, hold_choice}
 use Rattle.carol_parse.proofs.Programs.{hold_program}
@@ -39,11 +40,11 @@ whole_of tail p (Some s) h g = with_sequel_of tail p s.0 s.1 h g.0 g.1
 module _ {bytes : List ℕ} where
   hold_sequel : Holds bytes sequel IsSequel
   unfolding sequel
-  hold_sequel = hold_either (hold_begins (hold_gives hold_script (λ s h. h))) (hold_gives hold_any (λ l h. tt))
+  hold_sequel = says_either (says_begins (hold_gives hold_script (λ s h. h))) (hold_gives hold_any (λ l h. tt))
 
   hold_some_sequel : Holds bytes some_sequel (λ o. IfSome o IsSequel)
   unfolding some_sequel
-  hold_some_sequel = hold_perhaps (hold_begins hold_sequel)
+  hold_some_sequel = hold_perhaps (says_begins hold_sequel)
 
   hold_staged : Holds bytes (staged bytes) IsStage
   unfolding staged
@@ -51,27 +52,23 @@ module _ {bytes : List ℕ} where
 
   hold_some_stage : Holds bytes (some_stage bytes) (λ o. IfSome o IsStage)
   unfolding some_stage
-  hold_some_stage = hold_perhaps (hold_begins hold_staged)
+  hold_some_stage = hold_perhaps (says_begins hold_staged)
 
   hold_file : (tail : ℕ) → Holds bytes (file bytes tail) IsFile
   unfolding file
   hold_file tail = hold_gives (hold_both hold_program hold_some_stage) (λ p h. whole_of tail p.0 p.1 h.0 h.1)
 
--- the values of the rules that reach themselves fit, at the lowest level, at those above it, and so
--- at each
+-- the values of the rules that reach themselves fit, at the lowest level and above
 hold_lowest : (bytes : List ℕ) (v : Knot) → Holds bytes (lowest_of bytes v) (Fits v)
 hold_lowest bytes literal = hold_atom_literal
 hold_lowest bytes ending = hold_answer
 
 hold_upper : (bytes : List ℕ) (v : Knot) → Holds bytes (upper (carol bytes) v) (Fits v)
-hold_upper bytes literal = hold_either (hold_begins hold_nested) hold_atom_literal
-hold_upper bytes ending = hold_either (hold_begins hold_choice) hold_answer
-
-deep_fits : (bytes : List ℕ) (n d : ℕ) → AllFit bytes (Deep (carol bytes) n d)
-deep_fits bytes n zero v ts x g s = (hold_lowest bytes v).each n (λ w us y. ⊥) (λ w us y h b. absurd b) ts x g s
-deep_fits bytes n (suc d) v ts x g s = (hold_upper bytes v).each n (Deep (carol bytes) n d) (deep_fits bytes n d) ts x g s
+hold_upper bytes literal = says_either (says_begins hold_nested) hold_atom_literal
+hold_upper bytes ending = says_either (says_begins hold_choice) hold_answer
 
 pub file_shaped : (bytes : List ℕ) (tail : ℕ) (ts : List Lexeme) (f : FileTree) → AreSpelled bytes ts → IsFileOf bytes tail ts f
     → IsFile f
 file_shaped bytes tail ts f g s =
-    (hold_file tail).each s.0 (Deep (carol bytes) s.0 s.0) (deep_fits bytes s.0 s.0) ts f g s.1
+    let told = says_all (carol bytes) (AllFit bytes) (hold_lowest bytes) (hold_upper bytes) (hold_file tail) ts f s in
+    told.holds [] tt (stand_spelled bytes ts [] (record { latest = tt }) g)

@@ -2,10 +2,12 @@
 use Rattle.std.proofs.Common.{ℕ, List, [], ◌∷◌}
 use Rattle.std.specs.Prelude.{fold}
 use Rattle.std.specs.List.{AllByRecursion}
+use Rattle.carol_grammar.proofs.Says.{says_either, says_begins, says_deeper}
+use Rattle.carol_grammar.proofs.Given.{hold_any, hold_gives, hold_both, hold_many, hold_behind, hold_before}
 use Rattle.carol_syntax.specs.Formulas.{FormulaTree, And, Or}
 use Rattle.carol_syntax.specs.Shape.{IsFormula}
 use Rattle.carol_syntax_rules.specs.Rules.{literal, comparison, atom_literal, more_literals, conjunction, more_conjunctions, formula, denial, nested_literal}
-use Rattle.carol_parse.proofs.Holds.{Holds, hold_any, hold_gives, hold_both, hold_either, hold_many, hold_begins, hold_deeper, hold_behind, hold_before}
+use Rattle.carol_parse.proofs.Holds.{Holds}
 use Rattle.carol_parse.proofs.Terms.{hold_term}
 
 -- what two formulas make that are joined so is one
@@ -22,15 +24,15 @@ module _ {bytes : List ℕ} where
 
   pub hold_atom_literal : Holds bytes (atom_literal bytes) IsFormula
   unfolding atom_literal
-  hold_atom_literal = hold_either (hold_gives hold_any (λ l h. tt)) (hold_either (hold_gives hold_any (λ l h. tt)) hold_comparison)
+  hold_atom_literal = says_either (hold_gives hold_any (λ l h. tt)) (says_either (hold_gives hold_any (λ l h. tt)) hold_comparison)
 
   hold_literals : Holds bytes more_literals (AllByRecursion IsFormula)
-  hold_literals = hold_many (hold_behind (hold_deeper literal))
+  hold_literals = hold_many (hold_behind (says_deeper literal))
 
   hold_conjunction : Holds bytes conjunction IsFormula
   unfolding conjunction
   hold_conjunction =
-      hold_gives (hold_both (hold_deeper literal) hold_literals) (λ p h. folded And (λ f g a b. (a, b)) p.0 p.1 h.0 h.1)
+      hold_gives (hold_both (says_deeper literal) hold_literals) (λ p h. folded And (λ f g a b. (a, b)) p.0 p.1 h.0 h.1)
 
   hold_conjunctions : Holds bytes more_conjunctions (AllByRecursion IsFormula)
   hold_conjunctions = hold_many (hold_behind hold_conjunction)
@@ -41,8 +43,8 @@ module _ {bytes : List ℕ} where
 
   hold_denial : Holds bytes denial IsFormula
   unfolding denial
-  hold_denial = hold_gives (hold_behind (hold_deeper literal)) (λ f h. h)
+  hold_denial = hold_gives (hold_behind (says_deeper literal)) (λ f h. h)
 
   pub hold_nested : Holds bytes nested_literal IsFormula
   unfolding nested_literal
-  hold_nested = hold_either (hold_begins hold_denial) (hold_before (hold_behind hold_formula))
+  hold_nested = says_either (says_begins hold_denial) (hold_before (hold_behind hold_formula))

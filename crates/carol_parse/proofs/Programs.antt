@@ -2,9 +2,11 @@
 use Rattle.std.proofs.Common.{ℕ, List, Option}
 use Rattle.std.specs.Prelude.{Some, None, IfSome}
 use Rattle.std.specs.List.{AllByRecursion}
+use Rattle.carol_grammar.proofs.Says.{says_begins}
+use Rattle.carol_grammar.proofs.Given.{hold_gives, hold_both, hold_perhaps, hold_many, hold_behind, hold_before}
 use Rattle.carol_syntax.specs.Shape.{IsCell, IsNamed, IsOp, IsProgram, AreSome}
 use Rattle.carol_syntax_rules.specs.Rules.{guard, param, list_of, some_params, params, op, cells, guards, ops, program}
-use Rattle.carol_parse.proofs.Holds.{Holds, hold_gives, hold_both, hold_perhaps, hold_many, hold_begins, hold_behind, hold_before, hold_listed}
+use Rattle.carol_parse.proofs.Holds.{Holds, hold_listed}
 use Rattle.carol_parse.proofs.Terminals.{hold_name}
 use Rattle.carol_parse.proofs.Cells.{hold_cell}
 use Rattle.carol_parse.proofs.Formulas.{hold_formula}
@@ -26,7 +28,7 @@ module _ {bytes : List ℕ} where
 
   hold_some_params : Holds bytes (some_params bytes) (AllByRecursion IsNamed)
   unfolding some_params
-  hold_some_params = hold_gives (hold_perhaps (hold_begins (hold_listed hold_param))) (λ o h. all_listed IsNamed o h)
+  hold_some_params = hold_gives (hold_perhaps (says_begins (hold_listed hold_param))) (λ o h. all_listed IsNamed o h)
 
   hold_params : Holds bytes (params bytes) (AllByRecursion IsNamed)
   unfolding params
@@ -39,13 +41,13 @@ module _ {bytes : List ℕ} where
       (λ p h. (h.0, h.1.0, h.1.1.0, h.1.1.1))
 
   hold_cells : Holds bytes (cells bytes) (AllByRecursion IsCell)
-  hold_cells = hold_many (hold_begins hold_cell)
+  hold_cells = hold_many (says_begins hold_cell)
 
   hold_guards : Holds bytes (guards bytes) (AllByRecursion IsNamed)
-  hold_guards = hold_many (hold_begins hold_guard)
+  hold_guards = hold_many (says_begins hold_guard)
 
   hold_ops : Holds bytes (ops bytes) (AllByRecursion IsOp)
-  hold_ops = hold_many (hold_begins hold_op)
+  hold_ops = hold_many (says_begins hold_op)
 
   pub hold_program : Holds bytes (program bytes) IsProgram
   unfolding program

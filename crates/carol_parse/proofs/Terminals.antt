@@ -3,37 +3,17 @@ use Rattle.std.proofs.Common.{◌≡◌, ℕ, zero, suc, ◌≤◌, ◌⊎◌, B
 use Rattle.std.proofs.lemmas.Bool.Decides.{nat_tests}
 use Rattle.std.specs.Prelude.{nat_le, neg_ℤ}
 use Rattle.carol_grammar.specs.Sets.{has}
+use Rattle.carol_grammar.proofs.Says.{says_either}
+use Rattle.carol_grammar.proofs.Given.{hold_token, hold_gives, hold_behind}
 use Rattle.carol_syntax.specs.Limits.{largest}
 use Rattle.carol_syntax.specs.Shape.{IsLiteral, IsWhole, IsName, IsNumber}
 use Rattle.carol_syntax_tokens.specs.declared.kind.Kind.{Kind}
 use Rattle.carol_syntax_tokens.specs.declared.kind.Kind.TheVariants as k
 use Rattle.carol_syntax_tokens.specs.declared.lexeme.Lexeme.{Lexeme}
 use Rattle.carol_syntax_rules.specs.Terminals.{number_of, class_of, numeral, class_of_zero, class_of_more, class_of_none}
+use Rattle.carol_syntax_rules.proofs.TokenKinds.{word_kind}
 use Rattle.carol_syntax_rules.specs.Rules.{numbers, positives, digits, name, number, positive, num, int, bit}
-use Rattle.carol_parse.proofs.Holds.{Holds, hold_token, hold_gives, hold_either, hold_behind}
-
--- the class of names
-abbrev names : List ℕ
-names = number_of k.Name ∷ []
-
-no_name : (n : ℕ) → has names (numeral n) ≡ false
-unfolding number_of
-no_name zero = refl
-no_name (suc zero) = refl
-no_name (suc (suc n)) = elim (nat_le (suc (suc n)) largest) as (λ b. has names (cond b class_of_more class_of_none) ≡ false) [ true ↦ refl | false ↦ refl ]
-
-named : (kind : Kind) → has names (number_of kind) ≡ true → kind ≡ k.Name
-unfolding number_of
-named k.Name h = refl
-named _ h = absurd cc
-
-name_by : (b : Bool) (kind : Kind) (n : ℕ) → has names (cond b (numeral n) (number_of kind)) ≡ true → kind ≡ k.Name
-name_by true kind n h = absurd (cc (no_name n, h))
-name_by false kind n h = named kind h
-
-name_class : (l : Lexeme) → has names (class_of l) ≡ true → l.kind ≡ k.Name
-unfolding class_of
-name_class l h = name_by (eqb (number_of l.kind) (number_of k.Number)) l.kind l.value h
+use Rattle.carol_parse.proofs.Holds.{Holds}
 
 -- no word is a number
 no_number : (kind : Kind) → has numbers (number_of kind) ≡ false
@@ -91,22 +71,22 @@ bit_class l h = bit_by (eqb (number_of l.kind) (number_of k.Number)) l.kind l.va
 module _ {bytes : List ℕ} where
   pub hold_name : Holds bytes (name bytes) IsName
   unfolding name
-  hold_name = hold_gives (hold_token (λ l g h. g (name_class l h))) (λ l h. h)
+  hold_name = hold_gives (hold_token (λ l before h g. g.latest (word_kind k.Name l h))) (λ l h. h)
 
   pub hold_number : Holds bytes number (λ l. IsLiteral l.value)
-  hold_number = hold_token (λ l g h. small l h)
+  hold_number = hold_token (λ l before h g. small l h)
 
   pub hold_num : Holds bytes num IsNumber
   unfolding num
   hold_num = hold_gives hold_number (λ l h. h)
 
   hold_positive : Holds bytes positive (λ l. IsLiteral l.value)
-  hold_positive = hold_token (λ l g h. small l (wider (class_of l) h))
+  hold_positive = hold_token (λ l before h g. small l (wider (class_of l) h))
 
   pub hold_int : Holds bytes int IsWhole
   unfolding int
-  hold_int = hold_either (hold_gives hold_number (λ l h. h)) (hold_gives (hold_behind hold_positive) (λ l h. negative l.value h))
+  hold_int = says_either (hold_gives hold_number (λ l h. h)) (hold_gives (hold_behind hold_positive) (λ l h. negative l.value h))
 
   pub hold_bit : Holds bytes bit IsBit
   unfolding bit
-  hold_bit = hold_gives (hold_token (λ l g h. bit_class l h)) (λ l h. h)
+  hold_bit = hold_gives (hold_token (λ l before h g. bit_class l h)) (λ l h. h)

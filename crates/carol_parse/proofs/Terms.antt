@@ -2,6 +2,8 @@
 use Rattle.std.proofs.Common.{ℕ, ◌≤◌, List, ◌∷◌, length, Option, refl, inl, inr, arith}
 use Rattle.std.specs.Prelude.{Some, None, IfSome, option_to_list}
 use Rattle.std.specs.List.{AllByRecursion}
+use Rattle.carol_grammar.proofs.Says.{says_either, says_begins}
+use Rattle.carol_grammar.proofs.Given.{hold_any, hold_gives, hold_both, hold_perhaps, hold_many, hold_behind, hold_before}
 use Rattle.carol_syntax.specs.declared.places.Span.{Span}
 use Rattle.carol_syntax.specs.declared.places.Ident.{Ident}
 use Rattle.carol_syntax.specs.declared.formulas.ValueKind.{ValueKind}
@@ -11,7 +13,7 @@ use Rattle.carol_syntax.specs.Shape.{IsName, HasParts, IsValue, IsProduct, IsTer
 use Rattle.carol_syntax_tokens.specs.declared.kind.Kind.{Kind}
 use Rattle.carol_syntax_tokens.specs.declared.kind.Kind.TheVariants as k
 use Rattle.carol_syntax_rules.specs.Rules.{member, path, outcome_value, names_of, dotted, plain_value, side, sized_side, sized, size_value, value, times_value, multiple, product, next_product, first_product, more_products, term}
-use Rattle.carol_parse.proofs.Holds.{Holds, hold_any, hold_gives, hold_both, hold_either, hold_perhaps, hold_many, hold_begins, hold_behind, hold_before}
+use Rattle.carol_parse.proofs.Holds.{Holds}
 use Rattle.carol_parse.proofs.Terminals.{hold_name, hold_number}
 
 path_of : (i : Ident) (o : Option Ident) → IsName i → IfSome o IsName → IsPath (record { parts = i ∷ option_to_list o })
@@ -62,8 +64,8 @@ module _ {bytes : List ℕ} where
   hold_sized : Holds bytes (sized bytes) FitsKind
   unfolding sized
   hold_sized =
-      hold_either (hold_sized_side k.Here way.SizeHere (λ n l g. (l, g)))
-      (hold_either (hold_sized_side k.There way.SizeThere (λ n l g. (l, g))) (hold_gives hold_path (λ p h. ((h.0, h.1), h.2))))
+      says_either (hold_sized_side k.Here way.SizeHere (λ n l g. (l, g)))
+      (says_either (hold_sized_side k.There way.SizeThere (λ n l g. (l, g))) (hold_gives hold_path (λ p h. ((h.0, h.1), h.2))))
 
   hold_size : Holds bytes (size_value bytes) IsValue
   unfolding size_value
@@ -72,9 +74,9 @@ module _ {bytes : List ℕ} where
   hold_value : Holds bytes (value bytes) IsValue
   unfolding value
   hold_value =
-      hold_either (hold_begins hold_outcome)
-      (hold_either (hold_side k.Here way.Here (λ n l g. (l, g)))
-      (hold_either (hold_side k.There way.There (λ n l g. (l, g))) (hold_either (hold_begins hold_size) hold_plain)))
+      says_either (says_begins hold_outcome)
+      (says_either (hold_side k.Here way.Here (λ n l g. (l, g)))
+      (says_either (hold_side k.There way.There (λ n l g. (l, g))) (says_either (says_begins hold_size) hold_plain)))
 
   hold_times : Holds bytes (times_value bytes) (λ o. IfSome o IsValue)
   unfolding times_value
@@ -86,18 +88,18 @@ module _ {bytes : List ℕ} where
 
   hold_product : Holds bytes (product bytes) (λ q. IsProduct q.1)
   unfolding product
-  hold_product = hold_either (hold_begins hold_multiple) (hold_gives hold_value (λ v h. (tt, h, inr refl)))
+  hold_product = says_either (says_begins hold_multiple) (hold_gives hold_value (λ v h. (tt, h, inr refl)))
 
   hold_next : Holds bytes (next_product bytes) IsProduct
   unfolding next_product
-  hold_next = hold_either (hold_gives (hold_behind hold_product) (λ q h. h)) (hold_gives (hold_behind hold_product) (λ q h. h))
+  hold_next = says_either (hold_gives (hold_behind hold_product) (λ q h. h)) (hold_gives (hold_behind hold_product) (λ q h. h))
 
   hold_first : Holds bytes (first_product bytes) (λ q. IsProduct q.1)
   unfolding first_product
-  hold_first = hold_either (hold_gives (hold_both hold_any hold_product) (λ q h. h.1)) hold_product
+  hold_first = says_either (hold_gives (hold_both hold_any hold_product) (λ q h. h.1)) hold_product
 
   hold_products : Holds bytes (more_products bytes) (AllByRecursion IsProduct)
-  hold_products = hold_many (hold_begins hold_next)
+  hold_products = hold_many (says_begins hold_next)
 
   pub hold_term : Holds bytes (term bytes) IsTerm
   unfolding term
