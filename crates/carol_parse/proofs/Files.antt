@@ -71,4 +71,4 @@ pub file_shaped : (bytes : List ℕ) (tail : ℕ) (ts : List Lexeme) (f : FileTr
     → IsFile f
 file_shaped bytes tail ts f g s =
     let told = says_all (carol bytes) (AllFit bytes) (hold_lowest bytes) (hold_upper bytes) (hold_file tail) ts f s in
-    told.holds [] tt (stand_spelled bytes ts [] tt g)
+    told.holds [] tt (stand_spelled bytes ts [] (record { latest = tt }) g)

@@ -18,14 +18,17 @@ IsSpelled bytes l = l.kind ≡ k.Name → IsName (record { word = spelling bytes
 abbrev pub AreSpelled : List ℕ → List Lexeme → Type 0
 AreSpelled bytes ls = AllByRecursion (IsSpelled bytes) ls
 
--- the same of the latest of the tokens so far
-abbrev pub EndsSpelled : List ℕ → List Lexeme → Type 0
-EndsSpelled bytes [] = Unit {0}
-EndsSpelled bytes (l ∷ before) = IsSpelled bytes l
+abbrev pub LatestSpelled : List ℕ → List Lexeme → Type 0
+LatestSpelled bytes [] = Unit {0}
+LatestSpelled bytes (l ∷ before) = IsSpelled bytes l
+
+-- the latest of the tokens so far is well spelled
+pub record EndsSpelled (bytes : List ℕ) (before : List Lexeme) : Type 0 where
+  pub latest : LatestSpelled bytes before
 
 pub stand_spelled : (bytes : List ℕ) (ls before : List Lexeme) → EndsSpelled bytes before → AreSpelled bytes ls → Stand (EndsSpelled bytes) ls before
 stand_spelled bytes [] before h g = h
-stand_spelled bytes (l ∷ ls) before h g = (h, stand_spelled bytes ls (l ∷ before) g.0 g.1)
+stand_spelled bytes (l ∷ ls) before h g = (h, stand_spelled bytes ls (l ∷ before) (record { latest = g.0 }) g.1)
 
 -- what the value of a rule that reaches itself has to be
 abbrev pub Fits : (v : Knot) → KnotValue v → Type 0

@@ -71,7 +71,7 @@ bit_class l h = bit_by (eqb (number_of l.kind) (number_of k.Number)) l.kind l.va
 module _ {bytes : List ℕ} where
   pub hold_name : Holds bytes (name bytes) IsName
   unfolding name
-  hold_name = hold_gives (hold_token (λ l before h g. g (word_kind k.Name l h))) (λ l h. h)
+  hold_name = hold_gives (hold_token (λ l before h g. g.latest (word_kind k.Name l h))) (λ l h. h)
 
   pub hold_number : Holds bytes number (λ l. IsLiteral l.value)
   hold_number = hold_token (λ l before h g. small l h)
