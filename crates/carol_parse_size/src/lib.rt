@@ -2,8 +2,9 @@
 //! counts against them, over tokens alone, with the grammar.
 //!
 //! `proofs/Places` says how a token is counted where it stands, and `proofs/Fits` what is said of
-//! the rules that reach themselves. The other files follow the rules: in `Terms` and `Formulas` each
-//! product and each node counts, in `Bodies` each body has its braces, and `Files` has the law.
+//! the rules that reach themselves. The other files follow the rules: in `Terms` and `Formulas`
+//! each product and each node counts, in `Bodies` each body has its braces, and `Files` has the
+//! law.
 #![tactic(auto)]
 
 ghost use Rattle.carol_parse_size.specs.Law.{ReadIsSized};
