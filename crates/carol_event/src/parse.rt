@@ -1,7 +1,12 @@
+ghost use Rattle.std.specs.Prelude.{◌≡◌, ◌+◌, ◌≤◌, length, IfOk, IsOkAnd};
 ghost use Rattle.carol_text.specs.Reading.{Reads};
 ghost use Rattle.carol_event.specs.declared.kind.Kind.TheVariants as kind;
-ghost use Rattle.carol_event.specs.Lines.{at_end, event_at, fields_at};
+ghost use Rattle.carol_event.specs.declared.event.Event.{Event as EventData};
+ghost use Rattle.carol_event.specs.Lines.{Parses, at_end, event_at, fields_at};
+ghost use Rattle.carol_event.specs.Numbers.{HasNumbers};
+ghost use Rattle.carol_event.specs.Texts.{event_text};
 
+use crate::error::LineError;
 use crate::event::Event;
 use crate::fields::{cause, number32, pair};
 use crate::items::{atoms, values};
@@ -9,6 +14,34 @@ use crate::kind::{Kind, kind_of, word_of};
 use carol_store::Store;
 use carol_text::{BadByte, expect, wide_integer};
 use std::alloc::Global;
+
+/// Reads the line of an event, which has no line feed. `Ok` exactly where the line is the text of an
+/// event. An event's lists are kept in place, so that no memory is taken, and `NoMemory` isn't answered.
+pub fn parse_event(alloc: Global, line: &[u8]) -> Result<Event, LineError>
+    ensures found { IfOk result (λ event. line.now ≡ event_text event) }
+    ensures only { (event : EventData) → HasNumbers event → line.now ≡ event_text event
+        → IsOkAnd result (λ x. x ≡ event) }
+
+    // The 17th value or atom of a line is bad at its first byte, and so is the digit with which a number
+    // gets too wide.
+    ensures exact { Parses line.now result }
+{
+    match event(alloc, line) {
+        Ok(event) => Ok(event),
+        Err(bad) => Err(LineError::Bad {
+            column: column(line, bad),
+        }),
+    }
+}
+
+// The column of a byte, near the front of the line.
+fn column(line: &[u8], bad: BadByte) -> u32
+    requires within { bad.left ≤ length line.now }
+    requires near { length line.now ≤ bad.left + 1000 }
+    ensures { result + bad.left ≡ length line.now + 1 }
+{
+    (line.len() - bad.left) as u32 + 1
+}
 
 // The event of a line.
 #[tactic(auto, unfolding(crate::specs::Lines::event_at))]
