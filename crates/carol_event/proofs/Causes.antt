@@ -1,7 +1,6 @@
 -- Causes are read exactly.
-use Rattle.std.proofs.Common.{◌≡◌, ℕ, Bool, true, false, cond, eqb, List, ◌++◌, Ok, refl, sym, ◌∙◌, inl, inr, append_assoc}
+use Rattle.std.proofs.Common.{◌≡◌, ℕ, Bool, true, false, cond, eqb, List, ◌++◌, Ok, refl, sym, append_assoc}
 use Rattle.std.specs.Prelude.{codes, decimal, slice_index}
-use Rattle.std.proofs.lemmas.Bool.{cases_Bool}
 use Rattle.carol_text.specs.Number.{starts_with_digit}
 use Rattle.carol_text.specs.Reading.{◌>>=◌, word_at}
 use Rattle.carol_text.proofs.Laws.{bind_ok, ok_parts, word_takes, word_again}

@@ -1,8 +1,8 @@
 -- What a part of a line is read as is spelled so, and what is spelled so is read.
-use Rattle.std.proofs.Common.{◌≡◌, ℕ, ◌+◌, ◌^◌, ◌<◌, ◌≤◌, zero, suc, false, List, [], ◌∷◌, ◌++◌, length, Result, Ok, Err, ℤ, refl, sym, ◌∙◌, ap, append_assoc, append-nil, arith}
+use Rattle.std.proofs.Common.{◌≡◌, ℕ, ◌≤◌, zero, suc, false, List, [], ◌∷◌, ◌++◌, length, Ok, Err, ℤ, refl, append_assoc, arith}
 use Rattle.std.specs.Prelude.{codes, decimal, flat_map}
 use Rattle.std.specs.Fmt.{signed_decimal}
-use Rattle.carol_text.specs.Number.{IsWithin, integer_at, number_at, starts_with_digit}
+use Rattle.carol_text.specs.Number.{starts_with_digit}
 use Rattle.carol_text.specs.Reading.{Reading, ◌>>=◌, word_at}
 use Rattle.carol_text.proofs.Laws.{bind_ok, ok_parts, word_takes, word_again, number_takes, number_again, integer_takes, integer_again}
 use Rattle.carol_store.specs.declared.effect.Atom.{Atom}

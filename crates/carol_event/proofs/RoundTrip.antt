@@ -1,11 +1,10 @@
 -- A line is read as the event whose text it is.
-use Rattle.std.proofs.Common.{◌≡◌, ℕ, ◌≤◌, false, List, [], ◌∷◌, ◌++◌, length, Ok, Err, ℤ, refl, sym, ◌∙◌, ap, append_assoc, append-nil, arith}
+use Rattle.std.proofs.Common.{◌≡◌, ℕ, ◌≤◌, false, List, [], ◌∷◌, ◌++◌, length, Ok, Err, ℤ, refl, sym, ◌∙◌, ap, append_assoc, append-nil}
 use Rattle.std.specs.Prelude.{codes, decimal, flat_map}
 use Rattle.std.specs.Fmt.{signed_decimal}
 use Rattle.carol_text.specs.Number.{starts_with_digit}
 use Rattle.carol_text.specs.Reading.{Reading, ◌>>=◌, word_at}
 use Rattle.carol_text.proofs.Laws.{bind_ok, word_takes, word_again}
-use Rattle.carol_store.specs.declared.effect.Atom.{Atom}
 use Rattle.carol_event.specs.declared.event.Cause.{Cause}
 use Rattle.carol_event.specs.declared.event.Event.{Event}
 use Rattle.carol_event.specs.declared.event.Event.TheVariants.{Grant, Query, Issue, Release, Return, Refuse, Deliver, Cut, Join}

@@ -3,7 +3,6 @@ use Rattle.std.specs.Prelude.{ℕ, ◌≤◌, List, [], ◌∷◌, length, ℤ}
 use Rattle.carol_text.specs.Number.{IsWithin}
 use Rattle.carol_store.specs.declared.effect.Atom.{Atom}
 use Rattle.carol_store.specs.declared.short_list.TheConstants.{MOST_CELLS}
-use Rattle.carol_store.specs.Kinds.{CellValue}
 use Rattle.carol_event.specs.declared.event.Cause.{Cause}
 use Rattle.carol_event.specs.declared.event.Cause.TheVariants.{Barred, Behind}
 use Rattle.carol_event.specs.declared.event.Event.{Event}

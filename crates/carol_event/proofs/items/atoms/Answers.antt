@@ -1,4 +1,4 @@
-use Rattle.std.proofs.Common.{◌≡◌, ◌+◌, ◌-◌, ◌<◌, ◌≤◌, length, rules, arith, ap, length-append, refl, ◌∙◌, sym}
+use Rattle.std.proofs.Common.{◌≡◌, ◌-◌, ◌<◌, length, rules, arith, ap}
 use Rattle.std.proofs.lemmas.Result.{err_from_is_err_and}
 use Rattle.carol_event.specs.Lines.{atom_at, items_at}
 use Rattle.carol_event.proofs.OneMore.{behind_none, items_bad, items_end, items_full, items_next, items_word}

@@ -1,4 +1,4 @@
-use Rattle.std.proofs.Common.{◌≡◌, FitsSigned, ◌+◌, ◌-◌, ◌<◌, ◌≤◌, length, rules, arith, ap, length-append, refl, ◌∙◌, sym}
+use Rattle.std.proofs.Common.{◌≡◌, FitsSigned, ◌-◌, ◌<◌, length, rules, arith, ap, refl}
 use Rattle.std.proofs.lemmas.Result.{err_from_is_err_and}
 use Rattle.std.specs.Int.{w64}
 use Rattle.std.proofs.lemmas.Int.{to_z-of_z}
