@@ -64,13 +64,13 @@ digits_near k most n [] few = (omega arith, omega arith)
 digits_near zero most n (c ∷ cs) few =
     near_if after 0 (c ∷ cs) (is_ascii_digit c) (cond (leb (10 * n + (c - 48)) most) (digits_after most (10 * n + (c - 48)) cs) (Err (suc (length cs)))) (Ok (n, c ∷ cs))
     (λ e. near_if after 0 (c ∷ cs) (leb (10 * n + (c - 48)) most) (digits_after most (10 * n + (c - 48)) cs) (Err (suc (length cs)))
-        (λ fits. absurd (let low : 10 * n + (c - 48) ≤ most = grind (arith, nat_tests) in omega arith)) (λ e. (omega arith, omega arith)))
+    (λ fits. absurd (let low : 10 * n + (c - 48) ≤ most = grind (arith, nat_tests) in omega arith)) (λ e. (omega arith, omega arith)))
     (λ e. (omega arith, omega arith))
 digits_near (suc k) most n (c ∷ cs) few =
     let fewer : most < 10 ^ k * 10 * n = rw (← pow-suc 10 k) few
     in near_if after (suc k) (c ∷ cs) (is_ascii_digit c) (cond (leb (10 * n + (c - 48)) most) (digits_after most (10 * n + (c - 48)) cs) (Err (suc (length cs)))) (Ok (n, c ∷ cs))
     (λ e. near_if after (suc k) (c ∷ cs) (leb (10 * n + (c - 48)) most) (digits_after most (10 * n + (c - 48)) cs) (Err (suc (length cs)))
-        (λ fits. near_next after k c cs (digits_after most (10 * n + (c - 48)) cs) (digits_near k most (10 * n + (c - 48)) cs (omega arith))) (λ e. (omega arith, omega arith)))
+    (λ fits. near_next after k c cs (digits_after most (10 * n + (c - 48)) cs) (digits_near k most (10 * n + (c - 48)) cs (omega arith))) (λ e. (omega arith, omega arith)))
     (λ e. (omega arith, omega arith))
 
 number_near : (k most : ℕ) (bytes : List ℕ) → most < 10 ^ k → Near after (suc k) bytes (number_at most bytes)
@@ -80,11 +80,11 @@ number_near k most (c ∷ cs) few =
     near_if after (suc k) (c ∷ cs) (eqb c 48) (Ok (0, cs)) (cond (is_ascii_digit c) (digits_after most 0 (c ∷ cs)) (Err (suc (length cs))))
     (λ e. (omega arith, omega arith))
     (λ other. near_if after (suc k) (c ∷ cs) (is_ascii_digit c) (digits_after most 0 (c ∷ cs)) (Err (suc (length cs)))
-        (λ digit. rw digit (near_if after (suc k) (c ∷ cs) (leb (10 * 0 + (c - 48)) most) (digits_after most (10 * 0 + (c - 48)) cs) (Err (suc (length cs)))
-            (λ fits. near_next after k c cs (digits_after most (10 * 0 + (c - 48)) cs)
-                (digits_near k most (10 * 0 + (c - 48)) cs (first_digit (c - 48) (let some : 0 < c - 48 = grind (arith, nat_tests) in some))))
-            (λ e. (omega arith, omega arith))))
-        (λ e. (omega arith, omega arith)))
+    (λ digit. rw digit (near_if after (suc k) (c ∷ cs) (leb (10 * 0 + (c - 48)) most) (digits_after most (10 * 0 + (c - 48)) cs) (Err (suc (length cs)))
+    (λ fits. near_next after k c cs (digits_after most (10 * 0 + (c - 48)) cs)
+    (digits_near k most (10 * 0 + (c - 48)) cs (first_digit (c - 48) (let some : 0 < c - 48 = grind (arith, nat_tests) in some))))
+    (λ e. (omega arith, omega arith))))
+    (λ e. (omega arith, omega arith)))
   where
     first_digit : (d : ℕ) → 0 < d → most < 10 ^ k * (10 * 0 + d)
     first_digit zero some = absurd (omega arith)
@@ -125,7 +125,7 @@ unfolding Near after
 both_near m n one word two first second bytes =
     near_bind after after m (length word + (n + 0)) bytes (one bytes) (λ x. word_at word x.1 >>= λ rest. two rest >>= λ y. Ok ((x.0, y.0), y.1)) (first bytes)
     (λ x. near_bind (λ (rest : List ℕ). rest) after (length word) (n + 0) x.1 (word_at word x.1) (λ rest. two rest >>= λ y. Ok ((x.0, y.0), y.1)) (word_near word x.1)
-        (λ rest. near_bind after after n 0 rest (two rest) (λ y. Ok ((x.0, y.0), y.1)) (second rest) (λ y. (omega arith, omega arith))))
+    (λ rest. near_bind after after n 0 rest (two rest) (λ y. Ok ((x.0, y.0), y.1)) (second rest) (λ y. (omega arith, omega arith))))
 
 pair_near : (bytes : List ℕ) → Near after 23 bytes (pair_at bytes)
 pair_near bytes = both_near 11 11 number32_at (codes " ") number32_at number32_near number32_near bytes
@@ -141,10 +141,10 @@ unfolding Near after
 cause_near bytes =
     near_if after 30 bytes (eqb (slice_index bytes 1) 101) (behind_at bytes) (barred_at bytes)
     (λ e. near_wider after 18 30 bytes (behind_at bytes) (omega arith)
-        (near_bind (λ (rest : List ℕ). rest) after 7 11 bytes (word_at (codes "behind ") bytes) _ (word_near (codes "behind ") bytes)
-            (λ rest. near_bind after after 11 0 rest (number32_at rest) _ (number32_near rest) (λ x. (omega arith, omega arith)))))
+    (near_bind (λ (rest : List ℕ). rest) after 7 11 bytes (word_at (codes "behind ") bytes) _ (word_near (codes "behind ") bytes)
+    (λ rest. near_bind after after 11 0 rest (number32_at rest) _ (number32_near rest) (λ x. (omega arith, omega arith)))))
     (λ e. near_bind (λ (rest : List ℕ). rest) after 7 23 bytes (word_at (codes "barred ") bytes) _ (word_near (codes "barred ") bytes)
-        (λ rest. near_bind after after 23 0 rest (pair_at rest) _ (pair_near rest) (λ x. (omega arith, omega arith))))
+    (λ rest. near_bind after after 23 0 rest (pair_at rest) _ (pair_near rest) (λ x. (omega arith, omega arith))))
 
 -- nothing is left behind a whole line
 none : {X : Type 0} → X → List ℕ
@@ -164,8 +164,8 @@ items_near m zero item each (c ∷ cs) =
 items_near m (suc n) item each (c ∷ cs) =
     near_wider none (1 + (m + ((n * (m + 1) + 1) + 0))) (suc n * (m + 1) + 1) (c ∷ cs) (items_at item (suc n) (c ∷ cs)) (omega arith)
     (near_bind (λ (rest : List ℕ). rest) none 1 (m + ((n * (m + 1) + 1) + 0)) (c ∷ cs) (word_at (codes " ") (c ∷ cs)) (λ rest. item rest >>= λ x. items_at item n x.1 >>= λ more. Ok (x.0 ∷ more)) (word_near (codes " ") (c ∷ cs))
-        (λ rest. near_bind after none m ((n * (m + 1) + 1) + 0) rest (item rest) (λ x. items_at item n x.1 >>= λ more. Ok (x.0 ∷ more)) (each rest)
-            (λ x. near_bind none none (n * (m + 1) + 1) 0 x.1 (items_at item n x.1) (λ more. Ok (x.0 ∷ more)) (items_near m n item each x.1) (λ more. (omega arith, omega arith)))))
+    (λ rest. near_bind after none m ((n * (m + 1) + 1) + 0) rest (item rest) (λ x. items_at item n x.1 >>= λ more. Ok (x.0 ∷ more)) (each rest)
+    (λ x. near_bind none none (n * (m + 1) + 1) 0 x.1 (items_at item n x.1) (λ more. Ok (x.0 ∷ more)) (items_near m n item each x.1) (λ more. (omega arith, omega arith)))))
 
 -- one part, and the end of the line
 ended_near : {X : Type 0} (m : ℕ) (read : List ℕ → Reading X) (make : X → Event) → ((bytes : List ℕ) → Near after m bytes (read bytes)) → m ≤ 900 → (bytes : List ℕ) → Near none 900 bytes (read bytes >>= λ x. at_end (make x.0) x.1)
@@ -180,7 +180,7 @@ unfolding Near after none
 listed_near m read make near few bytes =
     near_wider none (23 + ((16 * (m + 1) + 1) + 0)) 900 bytes (pair_at bytes >>= λ x. items_at read 16 x.1 >>= λ xs. Ok (make x.0.0 x.0.1 xs)) (omega arith)
     (near_bind after none 23 ((16 * (m + 1) + 1) + 0) bytes (pair_at bytes) (λ x. items_at read 16 x.1 >>= λ xs. Ok (make x.0.0 x.0.1 xs)) (pair_near bytes)
-        (λ x. near_bind none none (16 * (m + 1) + 1) 0 x.1 (items_at read 16 x.1) (λ xs. Ok (make x.0.0 x.0.1 xs)) (items_near m 16 read near x.1) (λ xs. (omega arith, omega arith))))
+    (λ x. near_bind none none (16 * (m + 1) + 1) 0 x.1 (items_at read 16 x.1) (λ xs. Ok (make x.0.0 x.0.1 xs)) (items_near m 16 read near x.1) (λ xs. (omega arith, omega arith))))
 
 fields_near : (k : Kind) (bytes : List ℕ) → Near none 900 bytes (fields_at k bytes)
 unfolding fields_at

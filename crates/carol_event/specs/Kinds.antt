@@ -11,7 +11,8 @@ kind_from_third byte = if byte == 108 then Release else (if byte == 102 then Ref
 abbrev pub kind_from : ℕ → Kind → Kind
 kind_from byte others =
     if byte == 103 then Grant else (if byte == 113 then Query else (if byte == 105 then Issue else
-    (if byte == 100 then Deliver else (if byte == 99 then Cut else (if byte == 106 then Join else others)))))
+    (if byte == 100 then Deliver else (if byte == 99 then Cut else
+    (if byte == 106 then Join else others)))))
 
 -- the one kind whose word may begin the line
 unfoldable pub kind_of : List ℕ → Kind

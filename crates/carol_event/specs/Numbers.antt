@@ -17,7 +17,8 @@ IsValue value = IsWithin 9_223_372_036_854_775_808 9_223_372_036_854_775_807 val
 
 abbrev pub IsWide : ℤ → Type 0
 IsWide value =
-    IsWithin 170_141_183_460_469_231_731_687_303_715_884_105_728 170_141_183_460_469_231_731_687_303_715_884_105_727 value
+    IsWithin 170_141_183_460_469_231_731_687_303_715_884_105_728
+    170_141_183_460_469_231_731_687_303_715_884_105_727 value
 
 abbrev pub ArePair : ℕ → ℕ → Type 0
 ArePair m n = IsNumber m × IsNumber n
@@ -37,8 +38,10 @@ HasNumbersOf (Behind entry) = IsNumber entry
 -- the numbers of the event fit, and it has at most as many values or atoms as a store has cells
 abbrev pub HasNumbers : Event → Type 0
 HasNumbers (Grant session guard) = ArePair session guard
-HasNumbers (Query session guard store) = ArePair session guard × Each IsValue store × (length store ≤ MOST_CELLS)
-HasNumbers (Issue session entry effect) = ArePair session entry × Each IsAtom effect × (length effect ≤ MOST_CELLS)
+HasNumbers (Query session guard store) =
+    ArePair session guard × Each IsValue store × (length store ≤ MOST_CELLS)
+HasNumbers (Issue session entry effect) =
+    ArePair session entry × Each IsAtom effect × (length effect ≤ MOST_CELLS)
 HasNumbers (Release session) = IsNumber session
 HasNumbers (Return session value) = IsNumber session × IsWide value
 HasNumbers (Refuse session cause) = IsNumber session × HasNumbersOf cause

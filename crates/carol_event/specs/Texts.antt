@@ -32,12 +32,17 @@ cause_text (Behind entry) = codes "behind " ++ decimal entry
 -- an event: what it is, and its numbers
 unfoldable pub event_text : Event → List ℕ
 event_text (Grant session guard) = codes "grant " ++ pair_text session guard
-event_text (Query session guard store) = (codes "query " ++ pair_text session guard) ++ values_text store
-event_text (Issue session entry effect) = (codes "issue " ++ pair_text session entry) ++ atoms_text effect
+event_text (Query session guard store) =
+    (codes "query " ++ pair_text session guard) ++ values_text store
+event_text (Issue session entry effect) =
+    (codes "issue " ++ pair_text session entry) ++ atoms_text effect
 event_text (Release session) = codes "release " ++ decimal session
-event_text (Return session value) = codes "return " ++ (decimal session ++ (codes " " ++ signed_decimal value))
-event_text (Refuse session cause) = (codes "refuse " ++ (decimal session ++ codes " ")) ++ cause_text cause
-event_text (Deliver source target entry) = codes "deliver " ++ (decimal source ++ (codes " " ++ pair_text target entry))
+event_text (Return session value) =
+    codes "return " ++ (decimal session ++ (codes " " ++ signed_decimal value))
+event_text (Refuse session cause) =
+    (codes "refuse " ++ (decimal session ++ codes " ")) ++ cause_text cause
+event_text (Deliver source target entry) =
+    codes "deliver " ++ (decimal source ++ (codes " " ++ pair_text target entry))
 event_text (Cut a b) = codes "cut " ++ pair_text a b
 event_text (Join a b) = codes "join " ++ pair_text a b
 

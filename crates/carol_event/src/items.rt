@@ -9,7 +9,7 @@ use std::alloc::Global;
 
 /// The values up to the end of the line, one space before each.
 pub fn values(alloc: Global, bytes: &[u8]) -> Result<ShortList<i64>, BadByte>
-    ensures { Reads (λ x. x) result (items_at value_at 16 bytes.now) }
+    ensures { Reads (λ x. x) result (items_at value_at MOST_CELLS bytes.now) }
 {
     let mut values = ShortList::new(alloc);
     let mut left = bytes;
@@ -27,7 +27,7 @@ pub fn values(alloc: Global, bytes: &[u8]) -> Result<ShortList<i64>, BadByte>
 
 /// The atoms up to the end of the line, one space before each.
 pub fn atoms(alloc: Global, bytes: &[u8]) -> Result<AtomList, BadByte>
-    ensures { Reads (λ x. x) result (items_at atom_at 16 bytes.now) }
+    ensures { Reads (λ x. x) result (items_at atom_at MOST_CELLS bytes.now) }
 {
     let mut atoms = AtomList::new(alloc);
     let mut left = bytes;

@@ -13,3 +13,6 @@ pub use error::LineError;
 pub use event::{Cause, Event};
 pub use parse::parse_event;
 pub use print::print_event;
+
+#[cfg(test)]
+mod tests;

@@ -15,15 +15,15 @@ use carol_store::Store;
 use carol_text::{BadByte, expect, wide_integer};
 use std::alloc::Global;
 
-/// Reads the line of an event, which has no line feed. `Ok` exactly where the line is the text of an
-/// event. An event's lists are kept in place, so that no memory is taken, and `NoMemory` isn't answered.
+/// Reads the line of an event, given without its line feed. `Ok` exactly where the line is the text
+/// of an event. An event's lists are kept in place: no memory is taken, and `NoMemory` isn't answered.
 pub fn parse_event(alloc: Global, line: &[u8]) -> Result<Event, LineError>
     ensures found { IfOk result (λ event. line.now ≡ event_text event) }
     ensures only { (event : EventData) → HasNumbers event → line.now ≡ event_text event
         → IsOkAnd result (λ x. x ≡ event) }
 
-    // The 17th value or atom of a line is bad at its first byte, and so is the digit with which a number
-    // gets too wide.
+    // Bad are also the first byte of the 17th value or atom, the digit with which a number gets too
+    // wide, and the zero behind a minus.
     ensures exact { Parses line.now result }
 {
     match event(alloc, line) {
