@@ -1,0 +1,6 @@
+pub mod Causes
+pub mod Exact
+pub mod Near
+pub mod OneMore
+pub mod Printed
+pub mod RoundTrip

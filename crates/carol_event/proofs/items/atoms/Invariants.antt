@@ -1,0 +1,11 @@
+use Rattle.std.proofs.Common.{◌≡◌, ◌-◌, ◌≤◌, length}
+use Rattle.carol_event.specs.Lines.{atom_at, items_at}
+use Rattle.carol_event.proofs.OneMore.{behind}
+use Rattle.carol_event.proofs.items.atoms.Given as goal
+
+abbrev pub invariant-loop-left : goal.invariant-loop-left
+invariant-loop-left l =
+    (behind l.atoms (items_at atom_at (16 - length l.atoms) l.left) ≡ items_at atom_at 16 l.fn.bytes) × (length l.atoms ≤ 16)
+
+abbrev pub decreases-loop-left : goal.decreases-loop-left
+decreases-loop-left l = 16 - length l.atoms

@@ -1,0 +1,4 @@
+pub mod Kinds
+pub mod Lines
+pub mod Numbers
+pub mod Texts

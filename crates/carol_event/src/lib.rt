@@ -1,0 +1,18 @@
+//! The events of a history as texts, one line each.
+#![tactic(auto)]
+
+mod error;
+mod event;
+mod fields;
+mod items;
+mod kind;
+mod parse;
+mod print;
+
+pub use error::LineError;
+pub use event::{Cause, Event};
+pub use parse::parse_event;
+pub use print::print_event;
+
+#[cfg(test)]
+mod tests;
