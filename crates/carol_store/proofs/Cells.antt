@@ -1,5 +1,5 @@
 -- One cell of a store.
-use Rattle.std.proofs.Common.{◌≡◌, ℕ, ◌+◌, ◌<◌, ◌≤◌, zero, suc, List, [], ◌∷◌, length, ℤ, get_or, set, refl, ap, append-nil, arith}
+use Rattle.std.proofs.Common.{◌≡◌, ℕ, ◌+◌, ◌<◌, ◌≤◌, zero, suc, List, [], ◌∷◌, length, ℤ, get_or, set, refl, sym, subst, ap, append-nil, arith}
 use Rattle.std.specs.List.{refill}
 use Rattle.std.proofs.Math.Seq.{take-length, drop-length}
 use Rattle.carol_store.specs.declared.shape.CellKind.{CellKind}
@@ -54,3 +54,7 @@ IsStore-at_cell f may [] cell (value ∷ values) h = absurd h
 IsStore-at_cell f may (kind ∷ kinds) cell [] h = absurd h
 IsStore-at_cell f may (kind ∷ kinds) zero (value ∷ values) h = (may kind value, h.1)
 IsStore-at_cell f may (kind ∷ kinds) (suc cell) (value ∷ values) h = (h.0, IsStore-at_cell f may kinds cell values h.1)
+
+-- a word before words
+pub AreWords-before : (values : List CellValue) (value : CellValue) (more : List CellValue) → values ≡ value ∷ more → IsWord value → AreWords more → AreWords values
+AreWords-before values value more e h g = subst AreWords (sym e) (h, g)

@@ -18,4 +18,4 @@ pub use effect::{Atom, AtomList, Effect, MOST_AMOUNT, MOST_TARGET};
 pub use laws::store_laws;
 pub use shape::{CellKind, Shape};
 pub use short_list::{MOST_CELLS, ShortList};
-pub use store::Store;
+pub use store::{Store, as_words};

@@ -90,6 +90,14 @@ impl Store {
         self.cells[cell as usize]
     }
 
+    /// The values of the cells, in their order.
+    pub fn values(&self) -> &[i64]
+        ensures values { result.now ≡ self.now }
+        ensures words { AreWords self.now }
+    {
+        as_words(self.cells.as_slice())
+    }
+
     /// The number of cells, at most sixteen.
     pub fn len(&self) -> u32
         ensures value { result ≡ length self.now }
@@ -97,6 +105,19 @@ impl Store {
     {
         self.cells.len() as u32
     }
+}
+
+/// The numbers, each of which fits its word, as reading it shows.
+pub fn as_words(numbers: &[i64]) -> &[i64]
+    ensures numbers { result.now ≡ numbers.now }
+    ensures words { AreWords numbers.now }
+{
+    let mut left = numbers;
+    while let Some((number, more)) = left.split_first() {
+        let _word = *number;
+        left = more;
+    }
+    numbers
 }
 
 // What an atom's value makes of the value of a cell of this kind.

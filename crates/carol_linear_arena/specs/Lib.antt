@@ -1,0 +1,5 @@
+pub mod Combination
+pub mod Entries
+pub mod Extends
+pub mod Sides
+pub mod Outcome

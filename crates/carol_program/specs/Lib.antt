@@ -1,0 +1,9 @@
+pub mod Limits
+pub mod Bodies
+pub mod Rules
+pub mod Variables
+pub mod Called
+pub mod Accords
+pub mod Preserving
+pub mod WellFormed
+pub mod Scenes

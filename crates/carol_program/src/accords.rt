@@ -1,0 +1,98 @@
+ghost use Rattle.std.specs.Prelude.{◌≡◌, ◌<◌, ◌≤◌, ◌*◌, length, slice_get, Some};
+ghost use Rattle.carol_program.specs.Accords.{Accords, IsTable, ways, ways_of, place_of, entry_of, HasWay};
+
+use carol_formula::Valuation;
+use carol_store::{CellKind, Shape};
+use sqlite_items::Items;
+use std::marker::Model;
+
+/// Whether a unit step of a cell keeps a guard true; where not, two stores at which it makes it false.
+#[derive(Debug, Drop)]
+pub enum Entry {
+    Yes,
+    No(Valuation),
+}
+
+/// Entries by guard, then by cell, up before down.
+pub type EntryList = Items<Entry>;
+
+/// The accords of a program's guards.
+#[derive(Drop)]
+pub struct AccordTable {
+    shape: Shape,
+    guards: u32,
+    entries: EntryList,
+}
+
+impl Model for AccordTable {
+    ghost use Rattle.carol_program.specs.Accords.{Accords, IsTable};
+
+    ghost Value = { Accords };
+
+    ghost view = { λ t. record { kinds = t.shape; guards = t.guards; entries = t.entries } };
+
+    ghost invariant = { λ t. IsTable (record { kinds = t.shape; guards = t.guards; entries = t.entries }) };
+}
+
+// How many ways a cell of this kind can go: a counter up and down, any other up.
+fn ways_of(kind: CellKind) -> usize
+    ensures { result ≡ ways_of kind }
+{
+    match kind {
+        CellKind::Counter => 2,
+        CellKind::Peak | CellKind::Flag => 1,
+    }
+}
+
+impl AccordTable {
+    /// The table of these entries, of which there are exactly as many as guards, cells and ways.
+    pub fn new(shape: &Shape, guards: u32, entries: EntryList) -> AccordTable
+        requires { length entries ≡ guards * ways shape.now }
+        ensures { result ≡ record { kinds = shape.now; guards = guards; entries = entries } }
+    {
+        AccordTable {
+            shape: shape.copy(),
+            guards,
+            entries,
+        }
+    }
+
+    /// The entry of the guard for the cell's step, up or down. All are in range, and down only for a counter.
+    pub fn entry(&self, guard: u32, cell: u32, up: bool) -> &Entry
+        requires guard { guard < self.now.guards }
+        requires way { HasWay self.now.kinds cell up }
+        ensures { entry_of self.now guard cell up ≡ Some result.now }
+    {
+        let kinds = self.shape.kinds();
+        let place = guard as usize * ways(kinds) + offset(kinds, cell, up);
+        &self.entries.as_slice()[place]
+    }
+}
+
+#[tactic(auto, using(crate::proofs::Ways::ways_bounds))]
+// How many ways the cells of these kinds can go in all.
+fn ways(kinds: &[CellKind]) -> usize
+    requires { length kinds.now ≤ 16 }
+    ensures count { result ≡ ways kinds.now }
+    ensures few { result ≤ 32 }
+{
+    let mut left = kinds;
+    let mut count = 0;
+    while let Some((kind, more)) = left.split_first() {
+        count += ways_of(*kind);
+        left = more;
+    }
+    count
+}
+
+#[tactic(auto, using(crate::proofs::Ways::places))]
+// The place of the cell's way among all.
+fn offset(kinds: &[CellKind], cell: u32, up: bool) -> usize
+    requires few { length kinds.now ≤ 16 }
+    requires way { HasWay kinds.now cell up }
+    ensures place { result ≡ place_of kinds.now cell up }
+    ensures within { result < ways kinds.now }
+{
+    let first = ways(&kinds[..cell as usize]);
+    if up { first } else { first + 1 }
+}

@@ -1,0 +1,21 @@
+//! A program whose names are resolved, the scene that it is run in, and the table of its guards' accords.
+//!
+//! Cells, guards, operations, parameters and queries are numbers here; `Names` keeps what they are called. `specs/` has
+//! the program once more as plain data (`Rules`), and says which programs are well formed and which scenes are valid.
+#![tactic(auto)]
+
+mod accords;
+mod lookups;
+mod names;
+mod places;
+mod program;
+mod scenes;
+mod steps;
+
+pub use accords::{AccordTable, Entry, EntryList};
+pub use lookups::{OneStore, TwoStores};
+pub use names::{Name, NameList, Names, OpNameList, OpNames};
+pub use places::Place;
+pub use program::{FormulaList, Guard, GuardList, Op, OpList, Program};
+pub use scenes::{ArgList, Command, CommandList, PlanList, Scene, SessionPlan};
+pub use steps::{Part, PartList, Step};

@@ -1,0 +1,14 @@
+//! The sequential reading of operations: the marks that they may leave, and what may be trusted.
+#![tactic(auto)]
+
+mod accepted;
+mod action;
+mod effect;
+mod next;
+mod numbers;
+mod walk;
+
+pub use accepted::Accepted;
+pub use action::Action;
+pub use next::next_action;
+pub use walk::Walk;
