@@ -1,7 +1,7 @@
 ghost use Rattle.carol_formula.specs.Bounds.{IsBelow, term_limit};
 
 use super::*;
-use carol_formula::Term;
+use carol_formula::{Term, Variable};
 use std::test::Fail;
 
 const LARGEST: i128 = (1 << 92) - 1;

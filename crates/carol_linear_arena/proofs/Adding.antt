@@ -1,5 +1,5 @@
 -- A row and the row that it is divided to, added after others.
-use Rattle.std.proofs.Common.{ℕ, zero, suc, ◌/◌, ◌<◌, ◌≤◌, ◌≡◌, ◌≢◌, List, [], ◌∷◌, ◌++◌, map, length, refl, sym, ◌∙◌, ap, subst, arith}
+use Rattle.std.proofs.Common.{ℕ, zero, suc, ◌<◌, ◌≤◌, ◌≡◌, ◌≢◌, List, [], ◌∷◌, ◌++◌, length, refl, sym, ◌∙◌, ap, subst, arith}
 use Rattle.std.specs.Prelude.{ℤ, pos, negsuc, neg_ℤ, unsigned_abs}
 use Rattle.std.proofs.lemmas.Int.{ints}
 use Rattle.std.proofs.lemmas.List.{length_push}
@@ -8,7 +8,7 @@ use Rattle.carol_formula.specs.Division.{floor_of, ceiling_of, quotients, quotie
 use Rattle.carol_cert_rows.specs.declared.step.RowStep.{RowStep}
 use Rattle.carol_cert_rows.specs.declared.step.RowStep.TheVariants.{Tighten}
 use Rattle.carol_linear_stage.specs.Tightened.{content, divided, tightened}
-use Rattle.carol_linear_stage.specs.Derived.{row_at, made, IsDeriving, AreDerived}
+use Rattle.carol_linear_stage.specs.Derived.{row_at, AreDerived}
 use Rattle.carol_linear_stage.proofs.Closing.{derive_push}
 use Rattle.carol_linear_arena.specs.Entries.{rows_of, row_in, AreInside, rows_in, Grow, IsMade}
 use Rattle.carol_linear_arena.specs.Extends.{Extend, IsVerdict, placed}

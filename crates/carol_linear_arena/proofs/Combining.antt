@@ -1,24 +1,24 @@
 -- Loops over the rows of a stage.
-use Rattle.std.proofs.Common.{ℕ, zero, suc, ◌+◌, ◌<◌, ◌≤◌, ◌≡◌, ◌≢◌, Bool, true, false, cond, List, [], ◌∷◌, ◌++◌, map, length, get_or, take, append-nil, append_assoc, refl, sym, ◌∙◌, ap, subst, arith, inl, inr}
-use Rattle.std.specs.Prelude.{◌⊎◌, flat_map, ℤ, pos, neg_ℤ}
+use Rattle.std.proofs.Common.{ℕ, zero, suc, ◌+◌, ◌<◌, ◌≡◌, ◌≢◌, Bool, true, false, cond, List, [], ◌∷◌, ◌++◌, length, get_or, take, append-nil, append_assoc, refl, sym, ◌∙◌, ap, subst, arith, inl, inr}
+use Rattle.std.specs.Prelude.{flat_map, pos, neg_ℤ}
 use Rattle.std.specs.List.{filter}
 use Rattle.std.proofs.lemmas.Bool.{false≢true}
 use Rattle.std.proofs.lemmas.List.{take_more}
 use Rattle.std.proofs.lemmas.List.Elements.{filter-append}
-use Rattle.carol_formula.specs.Linear.{Linear, coefficient_of}
+use Rattle.carol_formula.specs.Linear.{Linear}
 use Rattle.carol_cert_rows.specs.declared.step.RowStep.{RowStep}
 use Rattle.carol_linear_stage.specs.Tightened.{tightened}
 use Rattle.carol_linear_stage.specs.Stage.{Among, factor_of, is_positive, is_upper, is_lower, least, combinations, without, uppers, lowers, next}
-use Rattle.carol_linear_stage.specs.Derived.{IsLowest, IsPair}
+use Rattle.carol_linear_stage.specs.Derived.{IsPair}
 use Rattle.carol_linear_stage.specs.Free.{IsFree}
-use Rattle.carol_linear_stage.proofs.Rows.{among_left, filter_among}
+use Rattle.carol_linear_stage.proofs.Rows.{filter_among}
 use Rattle.carol_linear_arena.specs.Entries.{row_in, AreInside, rows_in, Grow}
 use Rattle.carol_linear_arena.specs.Extends.{Extend}
-use Rattle.carol_linear_arena.specs.Sides.{ArePairs, AreAllPairs, KeepDerived}
+use Rattle.carol_linear_arena.specs.Sides.{AreAllPairs, KeepDerived}
 use Rattle.carol_linear_stage.specs.Stands.{Stand}
 use Rattle.carol_linear_stage.proofs.Standing.{stand_refl}
-use Rattle.carol_linear_arena.proofs.Growing.{rows_in_grow, inside_grow, grow_trans}
-use Rattle.carol_linear_arena.proofs.Extending.{map-push, inside_push, inside_at, extend_trans}
+use Rattle.carol_linear_arena.proofs.Growing.{rows_in_grow}
+use Rattle.carol_linear_arena.proofs.Extending.{map-push, extend_trans}
 
 -- ---- one row more
 

@@ -1,6 +1,6 @@
 -- From stage to stage.
-use Rattle.std.proofs.Common.{ℕ, zero, suc, ◌+◌, ◌<◌, ◌≤◌, ◌≡◌, ◌≢◌, List, [], ◌∷◌, ◌++◌, map, length, get_or, take, drop, append-nil, append_assoc, refl, sym, ◌∙◌, ap, subst, arith, inl, inr, drop-cons, add-one, Vec, Global}
-use Rattle.std.specs.Prelude.{◌⊎◌, ℤ, pos}
+use Rattle.std.proofs.Common.{ℕ, zero, suc, ◌+◌, ◌<◌, ◌≤◌, ◌≡◌, List, [], ◌∷◌, ◌++◌, map, length, get_or, take, drop, append_assoc, refl, sym, ◌∙◌, ap, subst, arith, inl, inr, drop-cons, add-one, Vec, Global}
+use Rattle.std.specs.Prelude.{ℤ, pos}
 use Rattle.std.proofs.lemmas.List.{take_more, take-append-drop, get_or-map, length-map}
 use Rattle.std.proofs.Math.ListN.{get_or-map as get_or-map_default}
 use Rattle.std.proofs.Math.Seq.{take-length, drop-length}
@@ -11,20 +11,20 @@ use Rattle.carol_cert_rows.specs.declared.step.RowStep.{RowStep}
 use Rattle.carol_cert_rows.specs.declared.step.RowStep.TheVariants.{Given}
 use Rattle.carol_cert_rows.specs.Steps.{Closes}
 use Rattle.carol_linear_stage.specs.Tightened.{tightened}
-use Rattle.carol_linear_stage.specs.Stage.{Among, factor_of, next, eliminated, variables, first_stage, IsAbsurdRow, HasNoAbsurd, IsQuiet}
-use Rattle.carol_linear_stage.specs.Values.{IsTrueRow, AreTrueRows}
-use Rattle.carol_linear_stage.specs.Free.{IsFree, IsIn, Cover, Ascend}
-use Rattle.carol_linear_stage.specs.Stands.{IsIdle, IsDominated, Stand}
+use Rattle.carol_linear_stage.specs.Stage.{Among, next, eliminated, variables, first_stage, IsAbsurdRow, HasNoAbsurd, IsQuiet}
+use Rattle.carol_linear_stage.specs.Values.{AreTrueRows}
+use Rattle.carol_linear_stage.specs.Free.{IsFree, Cover, Ascend}
+use Rattle.carol_linear_stage.specs.Stands.{Stand}
 use Rattle.carol_linear_stage.specs.Derived.{row_at, AreDerived}
 use Rattle.carol_linear_stage.proofs.Rows.{among_cases}
 use Rattle.carol_linear_stage.proofs.Standing.{stand_trans, stand_next}
 use Rattle.carol_linear_stage.proofs.Kept.{no_absurd_from, true_from}
-use Rattle.carol_linear_stage.proofs.Free.{below_free, cover_next, cover_first, variables_ascend, last_true}
+use Rattle.carol_linear_stage.proofs.Free.{below_free, cover_next, variables_ascend, last_true}
 use Rattle.carol_linear_stage.proofs.Closing.{absurd_closes, derive_front}
-use Rattle.carol_linear_arena.specs.Entries.{terms_of, steps_of, rows_of, row_in, AreInside, rows_in, Grow, IsMade}
+use Rattle.carol_linear_arena.specs.Entries.{terms_of, steps_of, row_in, AreInside, rows_in, Grow, IsMade}
 use Rattle.carol_linear_arena.specs.Extends.{Extend}
 use Rattle.carol_linear_arena.specs.Outcome.{AreStages, AreSound, IsQuietOutcome}
-use Rattle.carol_linear_arena.proofs.Growing.{inside_grow, rows_in_grow, length-rows_of}
+use Rattle.carol_linear_arena.proofs.Growing.{inside_grow, rows_in_grow}
 use Rattle.carol_linear_arena.proofs.Extending.{map-push}
 use Rattle.carol_linear_arena.proofs.Combining.{rows_in_more}
 

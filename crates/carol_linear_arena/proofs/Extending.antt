@@ -1,11 +1,11 @@
 -- A row more, by what becomes of it.
-use Rattle.std.proofs.Common.{ℕ, zero, suc, ◌+◌, ◌<◌, ◌≤◌, ◌≡◌, List, [], ◌∷◌, ◌++◌, map, length, get_or, set, append-nil, append_assoc, refl, sym, ◌∙◌, ap, subst, arith, inl, inr}
-use Rattle.std.specs.Prelude.{◌⊎◌, ℤ, pos, ◌≤ℤ◌, ◌<ℤ◌}
+use Rattle.std.proofs.Common.{ℕ, zero, suc, ◌<◌, ◌≡◌, List, [], ◌∷◌, ◌++◌, map, length, get_or, set, append-nil, append_assoc, refl, sym, ◌∙◌, ap, subst, arith, inl, inr}
+use Rattle.std.specs.Prelude.{◌⊎◌, ◌≤ℤ◌, ◌<ℤ◌}
 use Rattle.std.proofs.lemmas.Int.{ints}
 use Rattle.std.proofs.lemmas.List.{length-map}
 use Rattle.carol_cert_rows.specs.declared.step.RowStep.{RowStep}
 use Rattle.carol_linear_arena.specs.Entries.{row_in, AreInside, rows_in}
-use Rattle.carol_formula.specs.Linear.{Linear, constant_of}
+use Rattle.carol_formula.specs.Linear.{Linear}
 use Rattle.carol_linear_stage.specs.Stage.{Among}
 use Rattle.carol_linear_stage.specs.Stands.{IsIdle, Dominates, IsDominated, Stand}
 use Rattle.carol_linear_stage.specs.Derived.{row_at}

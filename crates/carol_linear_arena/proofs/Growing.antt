@@ -1,10 +1,10 @@
 -- Rows that are added after others.
-use Rattle.std.proofs.Common.{ℕ, ◌+◌, ◌<◌, ◌≤◌, ◌≡◌, List, [], ◌∷◌, ◌++◌, map, length, get_or, refl, sym, ◌∙◌, ap, subst, arith, length-append}
+use Rattle.std.proofs.Common.{ℕ, ◌<◌, ◌≡◌, List, [], ◌∷◌, ◌++◌, length, refl, sym, ◌∙◌, ap, arith}
 use Rattle.std.proofs.lemmas.List.{get_or_append_left, get_or_push, length-map, length_push}
-use Rattle.std.specs.Prelude.{ℤ, pos}
+use Rattle.std.specs.Prelude.{pos}
 use Rattle.carol_formula.specs.Linear.{Linear, constant_of}
 use Rattle.carol_cert_rows.specs.declared.step.RowStep.{RowStep}
-use Rattle.carol_linear_stage.specs.Derived.{row_at, made, IsDeriving, AreDerived}
+use Rattle.carol_linear_stage.specs.Derived.{row_at}
 use Rattle.carol_linear_arena.specs.Entries.{rows_of, row_in, AreInside, rows_in, Grow}
 
 pub rows_of-push : (entries : List (RowStep × Linear)) (e : RowStep × Linear) → rows_of (entries ++ e ∷ []) ≡ rows_of entries ++ e.1 ∷ []

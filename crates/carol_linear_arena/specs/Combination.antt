@@ -1,7 +1,6 @@
 -- The least combination of two rows, as the code answers it.
-use Rattle.std.specs.Prelude.{ℕ, ◌≡◌, ℤ}
-use Rattle.carol_formula.specs.Bounds.{term_limit}
-use Rattle.carol_formula.specs.Linear.{Linear, IsWithin, IsTerm, scaled}
+use Rattle.std.specs.Prelude.{ℕ, ◌≡◌}
+use Rattle.carol_formula.specs.Linear.{Linear}
 use Rattle.carol_linear_stage.specs.Stage.{factor_of, multiplier, least}
 use Rattle.carol_linear_stage.specs.Reasons.{IsNarrowPair}
 use Rattle.carol_linear_arena.specs.declared.combination.Combination.{Combination}

@@ -1,5 +1,5 @@
 -- What rows say of a variable, and why there is no next stage.
-use Rattle.std.specs.Prelude.{ℕ, ◌≡◌, ◌<◌, Bool, List, [], ◌∷◌, length, Result, Ok, Err}
+use Rattle.std.specs.Prelude.{ℕ, ◌<◌, Bool, List, length}
 use Rattle.carol_formula.specs.Linear.{Linear, is_zero}
 use Rattle.carol_cert_rows.specs.declared.step.RowStep.{RowStep}
 use Rattle.carol_linear_stage.specs.Stage.{Among, factor_of, is_upper, is_lower}

@@ -1,4 +1,4 @@
-use Rattle.std.proofs.Common.{◌≡◌, ◌++◌, [], ◌∷◌, List, ℕ, sym, ap, ◌∙◌}
+use Rattle.std.proofs.Common.{List, ℕ, sym, ap, ◌∙◌}
 use Rattle.std.specs.Prelude.{ℤ}
 use Rattle.carol_linear_stage.specs.Stage.{with_variable, with_pairs}
 use Rattle.carol_linear_arena.proofs.Ordering.{insert_key-is, with_pairs-push}
