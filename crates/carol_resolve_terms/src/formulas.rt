@@ -12,10 +12,9 @@ ghost use Rattle.carol_resolve_terms.specs.Bounded.{IsBounded, most_sum};
 use crate::arithmetic::{minus, plus};
 use crate::ground::Ground;
 use crate::terms::{note_width, values};
-use carol_formula::{Formula, Term};
+use carol_formula::{Boxed, Formula, Term};
 use carol_resolve_names::Finder;
 use carol_syntax::{FormulaDecl, Sign, TermDecl};
-use sqlite_items::Boxed;
 use std::alloc::{AllocError, Global};
 
 // The first less the second, with 1 more where the comparison is strict.
