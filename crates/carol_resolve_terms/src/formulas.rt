@@ -82,7 +82,7 @@ fn claim(sign: Sign, term: Option<Term>) -> Formula
 
 // A comparison of two terms.
 fn comparison<G: Ground>(
-    ground: &G,
+    place: &G,
     alloc: Global,
     finder: &mut Finder,
     left: &TermDecl,
@@ -93,11 +93,11 @@ fn comparison<G: Ground>(
     requires right { shape.IsTerm right.now }
     requires sized_left { IsSizedTerm left.now }
     requires sized_right { IsSizedTerm right.now }
-    ensures faults { OnOk result (finder.new ≡ earliest finder.old (formula_faults (G.look ground.now) (tree.Compare left.now sign right.now))) }
-    ensures meaning { IfOk result (λ f. claim_of f ≡ formula_meaning (G.look ground.now) (tree.Compare left.now sign right.now)) }
+    ensures faults { OnOk result (finder.new ≡ earliest finder.old (formula_faults (G.look place.now) (tree.Compare left.now sign right.now))) }
+    ensures meaning { IfOk result (λ f. claim_of f ≡ formula_meaning (G.look place.now) (tree.Compare left.now sign right.now)) }
 {
-    let first = values(ground, alloc, finder, left)?;
-    let second = values(ground, alloc, finder, right)?;
+    let first = values(place, alloc, finder, left)?;
+    let second = values(place, alloc, finder, right)?;
     let worth = comparison_worth(alloc, sign, &first, &second)?;
     note_width(alloc, finder, left.span, &worth)?;
     Ok(claim(sign, worth))
@@ -105,40 +105,40 @@ fn comparison<G: Ground>(
 
 /// What a formula means. Notes its faults.
 pub fn formula<G: Ground>(
-    ground: &G,
+    place: &G,
     alloc: Global,
     finder: &mut Finder,
     formula: &FormulaDecl,
 ) -> Result<Formula, AllocError>
     requires shape { shape.IsFormula (formula_tree formula.now) }
     requires sized { IsSizedFormula (formula_tree formula.now) }
-    ensures faults { OnOk result (finder.new ≡ earliest finder.old (formula_faults (G.look ground.now) (formula_tree formula.now))) }
-    ensures meaning { IfOk result (λ f. claim_of f ≡ formula_meaning (G.look ground.now) (formula_tree formula.now)) }
+    ensures faults { OnOk result (finder.new ≡ earliest finder.old (formula_faults (G.look place.now) (formula_tree formula.now))) }
+    ensures meaning { IfOk result (λ f. claim_of f ≡ formula_meaning (G.look place.now) (formula_tree formula.now)) }
 {
     match formula {
         FormulaDecl::True => Ok(Formula::True),
         FormulaDecl::False => Ok(Formula::False),
         FormulaDecl::Not(inner) => {
-            let inner = self::formula(ground, alloc, finder, inner.get())?;
+            let inner = self::formula(place, alloc, finder, inner.get())?;
             let inner = Boxed::new(alloc, inner)?;
             Ok(Formula::Not(inner))
         }
         FormulaDecl::And(left, right) => {
-            let left = self::formula(ground, alloc, finder, left.get())?;
-            let right = self::formula(ground, alloc, finder, right.get())?;
+            let left = self::formula(place, alloc, finder, left.get())?;
+            let right = self::formula(place, alloc, finder, right.get())?;
             let left = Boxed::new(alloc, left)?;
             let right = Boxed::new(alloc, right)?;
             Ok(Formula::And(left, right))
         }
         FormulaDecl::Or(left, right) => {
-            let left = self::formula(ground, alloc, finder, left.get())?;
-            let right = self::formula(ground, alloc, finder, right.get())?;
+            let left = self::formula(place, alloc, finder, left.get())?;
+            let right = self::formula(place, alloc, finder, right.get())?;
             let left = Boxed::new(alloc, left)?;
             let right = Boxed::new(alloc, right)?;
             Ok(Formula::Or(left, right))
         }
         FormulaDecl::Compare { left, sign, right } => {
-            comparison(ground, alloc, finder, left, *sign, right)
+            comparison(place, alloc, finder, left, *sign, right)
         }
     }
 }

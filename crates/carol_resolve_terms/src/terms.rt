@@ -36,21 +36,21 @@ fn signed_factor(minus: bool, factor: Option<u64>) -> i128
 
 // What a product is worth.
 fn product<G: Ground>(
-    ground: &G,
+    place: &G,
     alloc: Global,
     finder: &mut Finder,
     product: &ProductDecl,
 ) -> Result<Option<Term>, AllocError>
     requires { shape.IsProduct product.now }
-    ensures faults { OnOk result (finder.new ≡ earliest finder.old (product_faults (G.look ground.now) product.now)) }
-    ensures worth { IfOk result (λ t. t ≡ product_worth (G.look ground.now) product.now) }
+    ensures faults { OnOk result (finder.new ≡ earliest finder.old (product_faults (G.look place.now) product.now)) }
+    ensures worth { IfOk result (λ t. t ≡ product_worth (G.look place.now) product.now) }
     ensures bounded { IfOk result (λ t. IfSome t (IsBounded most_product)) }
 {
     let factor = signed_factor(product.minus, product.factor);
     let Some(value) = &product.value else {
         return Ok(Some(Term::constant(alloc, factor)));
     };
-    let Some(term) = ground.value(alloc, finder, value)? else {
+    let Some(term) = place.value(alloc, finder, value)? else {
         return Ok(None);
     };
     let product = multiply(&term, factor)?;
@@ -75,20 +75,20 @@ fn added(sum: Option<Term>, term: Option<Term>) -> Result<Option<Term>, AllocErr
 
 // The sum of products. Notes their values' faults.
 fn sum<G: Ground>(
-    ground: &G,
+    place: &G,
     alloc: Global,
     finder: &mut Finder,
     products: &[ProductDecl],
 ) -> Result<Option<Term>, AllocError>
     requires shape { AllByRecursion shape.IsProduct products.now }
     requires sized { length products.now ≤ 256 }
-    ensures faults { OnOk result (finder.new ≡ earliest finder.old (flat_map (product_faults (G.look ground.now)) products.now)) }
-    ensures worth { IfOk result (λ t. t ≡ sum_after (G.look ground.now) (Some (constant_of (pos 0))) products.now) }
+    ensures faults { OnOk result (finder.new ≡ earliest finder.old (flat_map (product_faults (G.look place.now)) products.now)) }
+    ensures worth { IfOk result (λ t. t ≡ sum_after (G.look place.now) (Some (constant_of (pos 0))) products.now) }
     ensures bounded { IfOk result (λ t. IfSome t (IsBounded most_sum)) }
 {
     let mut sum = Some(Term::constant(alloc, 0));
     for part in products {
-        let worth = product(ground, alloc, finder, part)?;
+        let worth = product(place, alloc, finder, part)?;
         sum = added(sum, worth)?;
     }
     Ok(sum)
@@ -96,18 +96,18 @@ fn sum<G: Ground>(
 
 /// What a term is worth: none where a value of it is at fault. Notes its values' faults.
 pub fn values<G: Ground>(
-    ground: &G,
+    place: &G,
     alloc: Global,
     finder: &mut Finder,
     term: &TermDecl,
 ) -> Result<Option<Term>, AllocError>
     requires shape { shape.IsTerm term.now }
     requires sized { IsSizedTerm term.now }
-    ensures faults { OnOk result (finder.new ≡ earliest finder.old (values_faults (G.look ground.now) term.now)) }
-    ensures worth { IfOk result (λ t. t ≡ term_worth (G.look ground.now) term.now) }
+    ensures faults { OnOk result (finder.new ≡ earliest finder.old (values_faults (G.look place.now) term.now)) }
+    ensures worth { IfOk result (λ t. t ≡ term_worth (G.look place.now) term.now) }
     ensures bounded { IfOk result (λ t. IfSome t (IsBounded most_sum)) }
 {
-    sum(ground, alloc, finder, term.products.as_slice())
+    sum(place, alloc, finder, term.products.as_slice())
 }
 
 // Each coefficient is small.
@@ -151,17 +151,17 @@ pub fn note_width(
 
 /// What a term by itself is worth. Notes its values' faults and its own.
 pub fn term<G: Ground>(
-    ground: &G,
+    place: &G,
     alloc: Global,
     finder: &mut Finder,
     term: &TermDecl,
 ) -> Result<Option<Term>, AllocError>
     requires shape { shape.IsTerm term.now }
     requires sized { IsSizedTerm term.now }
-    ensures faults { OnOk result (finder.new ≡ earliest finder.old (term_faults (G.look ground.now) term.now)) }
-    ensures worth { IfOk result (λ t. t ≡ term_worth (G.look ground.now) term.now) }
+    ensures faults { OnOk result (finder.new ≡ earliest finder.old (term_faults (G.look place.now) term.now)) }
+    ensures worth { IfOk result (λ t. t ≡ term_worth (G.look place.now) term.now) }
 {
-    let worth = values(ground, alloc, finder, term)?;
+    let worth = values(place, alloc, finder, term)?;
     note_width(alloc, finder, term.span, &worth)?;
     Ok(worth)
 }

@@ -6,10 +6,10 @@ use Rattle.carol_resolve_terms.proofs.formulas.+formula.Goals as goal
 
 pub returns-in_ok-right-in-And-2-clause-faults : goal.returns-in_ok-right-in-And-2-clause-faults
 returns-in_ok-right-in-And-2-clause-faults g t c =
-    both-faults (g.G.Ground.look c.args.ground.now) (formula_tree c.args.formula.now) (formula_tree c.get-in-And.result.now) (formula_tree c.get-in-And-2.result.now) _ _ _
+    both-faults (g.G.Ground.look c.args.place.now) (formula_tree c.args.formula.now) (formula_tree c.get-in-And.result.now) (formula_tree c.get-in-And-2.result.now) _ _ _
     (search (rules, the_lemmas)) c.in_ok-left-in-And.ensures.faults c.in_ok-right-in-And.ensures.faults
 
 pub returns-in_ok-right-in-Or-2-clause-faults : goal.returns-in_ok-right-in-Or-2-clause-faults
 returns-in_ok-right-in-Or-2-clause-faults g t c =
-    either-faults (g.G.Ground.look c.args.ground.now) (formula_tree c.args.formula.now) (formula_tree c.get-in-Or.result.now) (formula_tree c.get-in-Or-2.result.now) _ _ _
+    either-faults (g.G.Ground.look c.args.place.now) (formula_tree c.args.formula.now) (formula_tree c.get-in-Or.result.now) (formula_tree c.get-in-Or-2.result.now) _ _ _
     (search (rules, the_lemmas)) c.in_ok-left-in-Or.ensures.faults c.in_ok-right-in-Or.ensures.faults

@@ -9,7 +9,7 @@ use Rattle.carol_resolve_terms.proofs.terms.sum.Given as goal
 
 abbrev pub invariant-loop-part : goal.invariant-loop-part
 invariant-loop-part g l =
-    (earliest l.finder (flat_map (product_faults (g.G.Ground.look l.ground)) (drop l.part-index l.products)) ≡
-    earliest l.fn.finder (flat_map (product_faults (g.G.Ground.look l.ground)) l.products)) ×
-    (sum_after (g.G.Ground.look l.ground) l.sum (drop l.part-index l.products) ≡ sum_after (g.G.Ground.look l.ground) (Some (constant_of (pos 0))) l.products) ×
+    (earliest l.finder (flat_map (product_faults (g.G.Ground.look l.place)) (drop l.part-index l.products)) ≡
+    earliest l.fn.finder (flat_map (product_faults (g.G.Ground.look l.place)) l.products)) ×
+    (sum_after (g.G.Ground.look l.place) l.sum (drop l.part-index l.products) ≡ sum_after (g.G.Ground.look l.place) (Some (constant_of (pos 0))) l.products) ×
     IfSome l.sum (IsBounded (l.part-index * most_product))
