@@ -1,11 +1,11 @@
 -- Entries of a map of names, as a scope.
-use Rattle.std.proofs.Common.{Bor, ◌≡◌, ℕ, Bool, true, false, ◌||◌, List, [], ◌∷◌, ◌++◌, map, Option, Some, None, refl, ap, ◌∙◌, sym}
+use Rattle.std.proofs.Common.{Bor, ◌≡◌, ℕ, Bool, true, false, List, [], ◌∷◌, ◌++◌, map, take, Option, Some, None, refl, ap, ◌∙◌, sym}
 use Rattle.std.specs.Prelude.{is_some, if◌then◌else◌, IfSome}
 use Rattle.std.specs.Str.{bytes_eq}
 use Rattle.std.specs.Map.{lookup}
 use Rattle.std.specs.Option.{option_copied}
 use Rattle.std.proofs.lemmas.Bool.{false≢true}
-use Rattle.std.proofs.lemmas.List.{map-append}
+use Rattle.std.proofs.lemmas.List.{map-append, take-map}
 use Rattle.carol_resolve_meaning.specs.declared.meaning.Meaning.{Meaning}
 use Rattle.carol_resolve_meaning.specs.Scopes.{meaning_of, unless_known, declared}
 use Rattle.carol_resolve_scopes.specs.Scoped.{IsSafe, AreSafe}
@@ -58,3 +58,7 @@ declared-entries now entries new k m made none =
 pub copied-safe : (o : Option (Bor Meaning)) → IfSome (option_copied o) IsSafe → IfSome o (λ m. IsSafe m.now)
 copied-safe None h = tt
 copied-safe (Some m) h = h
+
+-- the first entries, as a scope
+pub taken-entries : {K : Type 0} (now : K → List ℕ) (n : ℕ) (entries new : List (K × Meaning)) → new ≡ take n entries → map (as_entry now) new ≡ take n (map (as_entry now) entries)
+taken-entries now n entries new is = rw is (sym (take-map (as_entry now) n entries))

@@ -1,7 +1,8 @@
-//! What the names of an operation stand for at a place, and what the values of the invariant, of guards and of
-//! operations are.
+//! What the names of an operation stand for at a place of it, and what the values are there.
 #![tactic(auto)]
 
+mod place;
 mod scope;
 
+pub use place::InScope;
 pub use scope::Scope;

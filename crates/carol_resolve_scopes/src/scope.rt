@@ -1,4 +1,4 @@
-ghost use Rattle.std.specs.Prelude.{◌≡◌, ◌∷◌, [], map, OnOk, IfSome, length};
+ghost use Rattle.std.specs.Prelude.{◌≡◌, ◌∷◌, [], map, take, OnOk, IfSome, length};
 ghost use Rattle.std.specs.Option.{option_copied};
 ghost use Rattle.carol_resolve_meaning.specs.Scopes.{meaning_of, declared};
 ghost use Rattle.carol_resolve_scopes.specs.Scoped.{IsSafe};
@@ -55,5 +55,19 @@ impl<'a> Scope<'a> {
         }
         self.names.insert(word, meaning)?;
         Ok(())
+    }
+
+    /// How many names there are.
+    pub fn len(&self) -> usize
+        ensures { result ≡ length self.now }
+    {
+        self.names.len()
+    }
+
+    /// Forgets all names but the first so many.
+    pub fn truncate(&mut self, len: usize)
+        ensures { self.new ≡ take len self.old }
+    {
+        self.names.truncate(len);
     }
 }
