@@ -1,0 +1,4 @@
+pub mod Fits
+pub mod Firsts
+pub mod Commands
+pub mod Valid
