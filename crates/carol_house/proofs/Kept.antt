@@ -5,16 +5,16 @@ use Rattle.std.proofs.lemmas.Bool.{cases_lt}
 use Rattle.std.proofs.lemmas.List.{reverse-append}
 use Rattle.std.proofs.lemmas.Option.{slice_get_past, slice_get-get_or, get_or_from_slice_get}
 use Rattle.carol_store.specs.declared.shape.CellKind.{CellKind}
-use Rattle.carol_history.specs.declared.event.PlainEvent.{PlainEvent}
-use Rattle.carol_history.specs.declared.event.PlainEvent.TheVariants.{Issue, Return, Deliver}
-use Rattle.carol_history.specs.declared.event.TheConstants.{MOST_EVENTS}
-use Rattle.carol_history.specs.declared.session.PlainCommand.{PlainCommand}
-use Rattle.carol_history.specs.declared.session.PlainSession.{PlainSession}
-use Rattle.carol_history.specs.Journal.{journal, is_held}
-use Rattle.carol_history.specs.Laws.{HeldAreEntries}
-use Rattle.carol_history.specs.Runs.{Legal, MayDeliver}
-use Rattle.carol_history.specs.Sessions.{next, results}
-use Rattle.carol_history.specs.Setup.{Setup, IsSetup, IsSessionOf, change_of}
+use Rattle.carol_plain_history.specs.declared.event.PlainEvent.{PlainEvent}
+use Rattle.carol_plain_history.specs.declared.event.PlainEvent.TheVariants.{Issue, Return, Deliver}
+use Rattle.carol_plain_history.specs.declared.event.TheConstants.{MOST_EVENTS}
+use Rattle.carol_plain_history.specs.declared.session.PlainCommand.{PlainCommand}
+use Rattle.carol_plain_history.specs.declared.session.PlainSession.{PlainSession}
+use Rattle.carol_plain_history.specs.Journal.{journal, is_held}
+use Rattle.carol_plain_history.specs.Laws.{HeldAreEntries}
+use Rattle.carol_plain_history.specs.Runs.{Legal, MayDeliver}
+use Rattle.carol_plain_history.specs.Sessions.{next, results}
+use Rattle.carol_plain_history.specs.Setup.{Setup, IsSetup, IsSessionOf, change_of}
 use Rattle.carol_house.specs.declared.tables.Entry.{Entry}
 use Rattle.carol_house.specs.declared.tables.Progress.{Progress}
 use Rattle.carol_house.specs.House.{House, house_of, with_event}

@@ -8,7 +8,7 @@ use Rattle.carol_store.specs.declared.shape.CellKind.{CellKind}
 use Rattle.carol_store.specs.declared.effect.Atom.{Atom}
 use Rattle.carol_store.specs.Stores.{IsStore, AreWords, StaysInWords, apply, with_cell}
 use Rattle.carol_store.specs.Actions.{chosen_from}
-use Rattle.carol_history.specs.Runs.{least_from}
+use Rattle.carol_plain_history.specs.Runs.{least_from}
 use Rattle.carol_house.specs.declared.tables.Entry.{Entry}
 use Rattle.carol_house.specs.Places.{is_taken, taken_atoms}
 

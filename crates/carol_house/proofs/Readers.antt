@@ -9,12 +9,12 @@ use Rattle.carol_store.specs.Effects.{IsAtomOf}
 use Rattle.carol_store.specs.Actions.{chosen_from}
 use Rattle.carol_store.specs.Stores.{apply}
 use Rattle.carol_store.proofs.Chosen.{chosen_from-all}
-use Rattle.carol_history.specs.declared.event.PlainEvent.{PlainEvent}
-use Rattle.carol_history.specs.Journal.{journal, is_held}
-use Rattle.carol_history.specs.Laws.{EntriesAreSmall, IsSmall, OrdersAgree, StaysSmall}
-use Rattle.carol_history.specs.Runs.{Run, MayDeliver, least_from, is_missing, lowest_missing}
-use Rattle.carol_history.specs.Setup.{Setup}
-use Rattle.carol_history.specs.Stores.{global, local}
+use Rattle.carol_plain_history.specs.declared.event.PlainEvent.{PlainEvent}
+use Rattle.carol_plain_history.specs.Journal.{journal, is_held}
+use Rattle.carol_plain_history.specs.Laws.{EntriesAreSmall, IsSmall, OrdersAgree, StaysSmall}
+use Rattle.carol_plain_history.specs.Runs.{Run, MayDeliver, least_from, is_missing, lowest_missing}
+use Rattle.carol_plain_history.specs.Setup.{Setup}
+use Rattle.carol_plain_history.specs.Stores.{global, local}
 use Rattle.carol_house.specs.declared.tables.Entry.{Entry}
 use Rattle.carol_house.specs.declared.tables.Progress.{Progress}
 use Rattle.carol_house.specs.House.{House}

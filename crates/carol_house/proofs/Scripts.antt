@@ -1,12 +1,12 @@
 -- One statement of a script after another.
 use Rattle.std.proofs.Common.{◌≡◌, ℕ, ◌+◌, ◌<◌, ◌≤◌, suc, List, [], ◌∷◌, length, drop, drop-cons, get_or, add-one, Option, Some, None, Result, Ok, Err, refl, sym, subst, ◌∙◌, ap, arith}
 use Rattle.std.specs.Prelude.{MatchResult}
-use Rattle.carol_history.specs.declared.event.PlainEvent.{PlainEvent}
-use Rattle.carol_history.specs.declared.event.TheConstants.{MOST_EVENTS}
-use Rattle.carol_history.specs.declared.script.PlainLine.{PlainLine}
-use Rattle.carol_history.specs.declared.script.ScriptCause.{ScriptCause}
-use Rattle.carol_history.specs.Scripts.{Scripted, event_of, scripted}
-use Rattle.carol_history.specs.Setup.{Setup}
+use Rattle.carol_plain_history.specs.declared.event.PlainEvent.{PlainEvent}
+use Rattle.carol_plain_history.specs.declared.event.TheConstants.{MOST_EVENTS}
+use Rattle.carol_plain_history.specs.declared.script.PlainLine.{PlainLine}
+use Rattle.carol_plain_history.specs.declared.script.ScriptCause.{ScriptCause}
+use Rattle.carol_plain_history.specs.Scripts.{Scripted, event_of, scripted}
+use Rattle.carol_plain_history.specs.Setup.{Setup}
 use Rattle.carol_house.specs.House.{House, with_event}
 use Rattle.carol_house.specs.Moves.{Makes, Plays}
 

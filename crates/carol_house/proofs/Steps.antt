@@ -6,13 +6,13 @@ use Rattle.std.proofs.lemmas.Bool.{cases_eq, cases_order, eq-eqb, ne_eqb, false_
 use Rattle.std.proofs.lemmas.List.{length-map, length-replicate, map-append}
 use Rattle.std.proofs.lemmas.List.Elements.{All-nil, All-push, All-set}
 use Rattle.std.proofs.lemmas.Option.{slice_get_past}
-use Rattle.carol_history.specs.declared.event.PlainEvent.{PlainEvent}
-use Rattle.carol_history.specs.declared.event.PlainEvent.TheVariants.{Issue, Return, Deliver}
-use Rattle.carol_history.specs.declared.session.PlainSession.{PlainSession}
-use Rattle.carol_history.specs.Journal.{journal, is_at, is_held}
-use Rattle.carol_history.specs.Laws.{HeldAreEntries}
-use Rattle.carol_history.specs.Sessions.{results}
-use Rattle.carol_history.specs.Setup.{Setup}
+use Rattle.carol_plain_history.specs.declared.event.PlainEvent.{PlainEvent}
+use Rattle.carol_plain_history.specs.declared.event.PlainEvent.TheVariants.{Issue, Return, Deliver}
+use Rattle.carol_plain_history.specs.declared.session.PlainSession.{PlainSession}
+use Rattle.carol_plain_history.specs.Journal.{journal, is_at, is_held}
+use Rattle.carol_plain_history.specs.Laws.{HeldAreEntries}
+use Rattle.carol_plain_history.specs.Sessions.{results}
+use Rattle.carol_plain_history.specs.Setup.{Setup}
 use Rattle.carol_house.specs.declared.tables.Entry.{Entry}
 use Rattle.carol_house.specs.declared.tables.Progress.{Progress}
 use Rattle.carol_house.specs.Tables.{AreTables, flag_at, progress_of}

@@ -1,9 +1,9 @@
 -- What a house is to its callers.
 use Rattle.std.specs.Prelude.{ℕ, ℤ, List, ◌∷◌, reverse}
 use Rattle.carol_store.specs.declared.shape.CellKind.{CellKind}
-use Rattle.carol_history.specs.declared.event.PlainEvent.{PlainEvent}
-use Rattle.carol_history.specs.declared.session.PlainSession.{PlainSession}
-use Rattle.carol_history.specs.Setup.{Setup}
+use Rattle.carol_plain_history.specs.declared.event.PlainEvent.{PlainEvent}
+use Rattle.carol_plain_history.specs.declared.session.PlainSession.{PlainSession}
+use Rattle.carol_plain_history.specs.Setup.{Setup}
 
 -- what its history is made over, and the history, the latest event first
 pub record House : Type 0 where

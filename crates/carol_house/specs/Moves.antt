@@ -1,14 +1,14 @@
 -- What a step of a house does.
 use Rattle.std.specs.Prelude.{◌≡◌, ℕ, List, Option, Some, None, MatchOption, MatchResult}
-use Rattle.carol_history.specs.declared.event.PlainEvent.{PlainEvent}
-use Rattle.carol_history.specs.declared.event.PlainEvent.TheVariants.{Issue, Return, Deliver}
-use Rattle.carol_history.specs.declared.script.PlainLine.{PlainLine}
-use Rattle.carol_history.specs.declared.script.ScriptCause.{ScriptCause}
-use Rattle.carol_history.specs.declared.script.ScriptCause.TheVariants as no_step
-use Rattle.carol_history.specs.declared.script.BadLine.{BadLine}
-use Rattle.carol_history.specs.Scripts.{event_of, scripted}
-use Rattle.carol_history.specs.Sessions.{next}
-use Rattle.carol_history.specs.Runs.{lowest_missing}
+use Rattle.carol_plain_history.specs.declared.event.PlainEvent.{PlainEvent}
+use Rattle.carol_plain_history.specs.declared.event.PlainEvent.TheVariants.{Issue, Return, Deliver}
+use Rattle.carol_plain_history.specs.declared.script.PlainLine.{PlainLine}
+use Rattle.carol_plain_history.specs.declared.script.ScriptCause.{ScriptCause}
+use Rattle.carol_plain_history.specs.declared.script.ScriptCause.TheVariants as no_step
+use Rattle.carol_plain_history.specs.declared.script.BadLine.{BadLine}
+use Rattle.carol_plain_history.specs.Scripts.{event_of, scripted}
+use Rattle.carol_plain_history.specs.Sessions.{next}
+use Rattle.carol_plain_history.specs.Runs.{lowest_missing}
 use Rattle.carol_house.specs.declared.moved.Moved.{Moved}
 use Rattle.carol_house.specs.declared.moved.Moved.TheVariants.{Entered, Finished}
 use Rattle.carol_house.specs.declared.moved.Gossip.{Gossip}

@@ -1,12 +1,12 @@
 -- What a house keeps at hand of its history.
 use Rattle.std.specs.Prelude.{◌≡◌, ℕ, ◌<◌, ◌≤◌, Bool, false, List, Some, length, map, slice_get, slice_index_or, All}
 use Rattle.std.specs.Option.{option_map_or}
-use Rattle.carol_history.specs.declared.event.PlainEvent.{PlainEvent}
-use Rattle.carol_history.specs.declared.event.TheConstants.{MOST_EVENTS}
-use Rattle.carol_history.specs.Journal.{journal, is_held}
-use Rattle.carol_history.specs.Runs.{Run}
-use Rattle.carol_history.specs.Sessions.{has_issued, results}
-use Rattle.carol_history.specs.Setup.{Setup, IsSetup}
+use Rattle.carol_plain_history.specs.declared.event.PlainEvent.{PlainEvent}
+use Rattle.carol_plain_history.specs.declared.event.TheConstants.{MOST_EVENTS}
+use Rattle.carol_plain_history.specs.Journal.{journal, is_held}
+use Rattle.carol_plain_history.specs.Runs.{Run}
+use Rattle.carol_plain_history.specs.Sessions.{has_issued, results}
+use Rattle.carol_plain_history.specs.Setup.{Setup, IsSetup}
 use Rattle.carol_house.specs.declared.tables.Entry.{Entry}
 use Rattle.carol_house.specs.declared.tables.Progress.{Progress}
 use Rattle.carol_house.specs.House.{House}

@@ -1,16 +1,16 @@
 ghost use Rattle.std.specs.Prelude.{◌≡◌, ◌≢◌, ℕ, ◌<◌, ◌≤◌, length, reverse, drop, [], Some, IfOk, OnOk, OnErr, All};
-ghost use Rattle.carol_history.specs.declared.event.PlainEvent.TheVariants.{Return, Deliver};
-ghost use Rattle.carol_history.specs.Laws.{ReplicasAgree, IsSmall};
-ghost use Rattle.carol_history.specs.Runs.{Run, MayDeliver};
-ghost use Rattle.carol_history.specs.Sessions.{issue_of, next};
-ghost use Rattle.carol_history.specs.Setup.{IsSetup};
-ghost use Rattle.carol_history.specs.Stores.{local, global};
+ghost use Rattle.carol_plain_history.specs.declared.event.PlainEvent.TheVariants.{Return, Deliver};
+ghost use Rattle.carol_plain_history.specs.Laws.{ReplicasAgree, IsSmall};
+ghost use Rattle.carol_plain_history.specs.Runs.{Run, MayDeliver};
+ghost use Rattle.carol_plain_history.specs.Sessions.{issue_of, next};
+ghost use Rattle.carol_plain_history.specs.Setup.{IsSetup};
+ghost use Rattle.carol_plain_history.specs.Stores.{local, global};
 
 use crate::moved::{Gossip, Moved};
 use crate::tables::{
     Entry, Progress, command_at, issue_of, issued_entry, lowest_missing, replayed, return_of,
 };
-use carol_history::{
+use carol_plain_history::{
     MOST_EVENTS, PlainCommand, PlainEvent, PlainSession, PlainSessions, history_laws,
 };
 use carol_store::{Shape, Store};

@@ -6,7 +6,7 @@ mod moved;
 mod script;
 mod tables;
 
-pub use carol_history::{
+pub use carol_plain_history::{
     BadLine, MOST_EVENTS, PlainCommand, PlainEvent, PlainLine, PlainLines, PlainList, PlainSession,
     PlainSessions, ScriptCause,
 };

@@ -1,10 +1,10 @@
 ghost use Rattle.std.specs.Prelude.{◌+◌, ◌<◌, ◌≤◌, ◌≡◌, length, IfOk, OnErr};
-ghost use Rattle.carol_history.specs.declared.script.PlainLine.TheVariants as statement;
+ghost use Rattle.carol_plain_history.specs.declared.script.PlainLine.TheVariants as statement;
 ghost use Rattle.carol_house.specs.Moves.{Makes, Plays, cause_of_rest, cause_of_silence};
 
 use crate::house::PlainHouse;
 use crate::moved::{Gossip, Moved};
-use carol_history::{BadLine, MOST_EVENTS, PlainLine, PlainLines, ScriptCause};
+use carol_plain_history::{BadLine, MOST_EVENTS, PlainLine, PlainLines, ScriptCause};
 use std::alloc::AllocError;
 
 /// What a script comes to: the house with its events, and the first statement that gave none, which

@@ -1,13 +1,13 @@
 ghost use Rattle.std.specs.Prelude.{◌≡◌, ◌<◌, length, false, true, replicate, slice_get, slice_set, All};
 ghost use Rattle.std.specs.Option.{ForSome, option_and_then};
 ghost use Rattle.std.specs.List.{position};
-ghost use Rattle.carol_history.specs.Setup.{change_of};
+ghost use Rattle.carol_plain_history.specs.Setup.{change_of};
 ghost use Rattle.carol_house.specs.Places.{is_lent, is_taken, taken_atoms};
 ghost use Rattle.carol_store.specs.Effects.{IsAtomOf};
 ghost use Rattle.carol_store.specs.Stores.{AreWords, IsStore, StaysInWords, apply, with_cell};
-ghost use Rattle.carol_history.specs.declared.event.PlainEvent.TheVariants.{Issue, Return};
+ghost use Rattle.carol_plain_history.specs.declared.event.PlainEvent.TheVariants.{Issue, Return};
 
-use carol_history::{PlainCommand, PlainEvent, PlainSession};
+use carol_plain_history::{PlainCommand, PlainEvent, PlainSession};
 use carol_store::{Atom, Effect, Shape, Store};
 use std::alloc::Global;
 

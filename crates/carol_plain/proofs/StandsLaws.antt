@@ -1,6 +1,6 @@
 -- What a file stands for, by its parts.
 use Rattle.std.proofs.Common.{◌≡◌, ◌≤◌, true, false, List, length, Some, sym, subst, ◌∙◌, arith}
-use Rattle.carol_history.specs.Setup.{IsSetup}
+use Rattle.carol_plain_history.specs.Setup.{IsSetup}
 use Rattle.carol_syntax.specs.declared.scenes.SceneDecl.{SceneDecl}
 use Rattle.carol_syntax.specs.declared.scenes.ScriptLine.{ScriptLine}
 use Rattle.carol_syntax.specs.Files.{ProgramTree, FileTree}

@@ -17,9 +17,9 @@ use Rattle.carol_syntax.specs.declared.scenes.SceneDecl.{SceneDecl}
 use Rattle.carol_syntax.specs.declared.scenes.ScriptLine.{ScriptLine}
 use Rattle.carol_syntax.specs.declared.scenes.ScriptLine.TheVariants as said
 use Rattle.carol_syntax.specs.Files.{OpTree, ProgramTree}
-use Rattle.carol_history.specs.declared.session.PlainCommand.{PlainCommand}
-use Rattle.carol_history.specs.declared.session.PlainSession.{PlainSession}
-use Rattle.carol_history.specs.Setup.{Setup, IsSetup, IsSessionOf, change_of}
+use Rattle.carol_plain_history.specs.declared.session.PlainCommand.{PlainCommand}
+use Rattle.carol_plain_history.specs.declared.session.PlainSession.{PlainSession}
+use Rattle.carol_plain_history.specs.Setup.{Setup, IsSetup, IsSessionOf, change_of}
 use Rattle.carol_plain.specs.Only.{only}
 use Rattle.carol_plain.specs.Adder.{most_argument, target_of}
 use Rattle.carol_plain.specs.Plain.{most_start, IsCounter, cell_of, cell_word, op_named, cell_added_to, IsPlainCall, IsPlainSession, commands_of, line_of, start_of, one_command, all_commands, session_of, input_of}

@@ -12,10 +12,10 @@ use Rattle.carol_syntax.specs.declared.scenes.ScriptLine.{ScriptLine}
 use Rattle.carol_syntax.specs.declared.scenes.ScriptLine.TheVariants as said
 use Rattle.carol_syntax.specs.Formulas.{True}
 use Rattle.carol_syntax.specs.Files.{OpTree, ProgramTree, FileTree}
-use Rattle.carol_history.specs.declared.session.PlainCommand.{PlainCommand}
-use Rattle.carol_history.specs.declared.session.PlainSession.{PlainSession}
-use Rattle.carol_history.specs.declared.script.PlainLine.{PlainLine}
-use Rattle.carol_history.specs.declared.script.PlainLine.TheVariants.{Go, Gossip}
+use Rattle.carol_plain_history.specs.declared.session.PlainCommand.{PlainCommand}
+use Rattle.carol_plain_history.specs.declared.session.PlainSession.{PlainSession}
+use Rattle.carol_plain_history.specs.declared.script.PlainLine.{PlainLine}
+use Rattle.carol_plain_history.specs.declared.script.PlainLine.TheVariants.{Go, Gossip}
 use Rattle.carol_plain.specs.declared.input.PlainInput.{PlainInput}
 use Rattle.carol_plain.specs.Only.{only}
 use Rattle.carol_plain.specs.Adder.{most_argument, AddsTo, target_of}

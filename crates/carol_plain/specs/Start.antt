@@ -1,7 +1,7 @@
 -- What a plain input's history is made over.
 use Rattle.std.specs.Prelude.{map}
 use Rattle.carol_store.specs.declared.shape.CellKind.TheVariants.{Counter}
-use Rattle.carol_history.specs.Setup.{Setup}
+use Rattle.carol_plain_history.specs.Setup.{Setup}
 use Rattle.carol_plain.specs.declared.input.PlainInput.{PlainInput}
 
 -- a counter for each of the values at the start

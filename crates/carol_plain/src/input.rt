@@ -1,5 +1,5 @@
 ghost use Rattle.std.specs.Prelude.{◌≡◌, ◌↔◌, ◌≤◌, ⊤, Some, None, List, length, IsTrue, IfOk, IsSomeAnd, MatchResult, OnErr, MatchOption};
-ghost use Rattle.carol_history.specs.Setup.{IsSetup};
+ghost use Rattle.carol_plain_history.specs.Setup.{IsSetup};
 ghost use Rattle.carol_syntax.specs.declared.scenes.SceneDecl.{SceneDecl};
 ghost use Rattle.carol_syntax.specs.declared.scenes.ScriptLine.{ScriptLine};
 ghost use Rattle.carol_syntax.specs.Files.{file_tree, program_tree};
@@ -14,7 +14,7 @@ use crate::meaning::{sessions_of, starts_of};
 use crate::program::is_plain_program;
 use crate::scenes::is_plain_scene;
 use crate::scripts::{is_plain_script, lines_of};
-use carol_history::{PlainLines, PlainSessions};
+use carol_plain_history::{PlainLines, PlainSessions};
 use carol_syntax::{File, IntList, ProgramDecl, SceneDecl, ScriptLine};
 use std::alloc::{AllocError, Global};
 

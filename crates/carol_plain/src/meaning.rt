@@ -4,7 +4,7 @@ ghost use Rattle.carol_plain.specs.Plain.{start_of, one_command, all_commands, s
 
 use crate::only::only;
 use crate::program::cell_added_to;
-use carol_history::{PlainCommand, PlainList, PlainSession, PlainSessions};
+use carol_plain_history::{PlainCommand, PlainList, PlainSession, PlainSessions};
 use carol_syntax::{CellDecl, CommandDecl, IntList, ProgramDecl, SessionDecl};
 use std::alloc::{AllocError, Global};
 

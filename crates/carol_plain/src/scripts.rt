@@ -2,7 +2,7 @@ ghost use Rattle.std.specs.Prelude.{◌≡◌, IfOk, filter_map};
 ghost use Rattle.carol_plain.specs.Plain.{line_of};
 ghost use Rattle.carol_plain.specs.Tests.{is_plain_script};
 
-use carol_history::{PlainLine, PlainLines};
+use carol_plain_history::{PlainLine, PlainLines};
 use carol_syntax::ScriptLine;
 use std::alloc::{AllocError, Global};
 

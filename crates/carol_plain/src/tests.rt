@@ -1,5 +1,5 @@
 use super::*;
-use carol_history::{PlainCommand, PlainLine};
+use carol_plain_history::{PlainCommand, PlainLine};
 use carol_syntax::{
     AtomDecl, Body, CellDecl, CellDeclList, Change, CommandDecl, FieldDecl, FieldKind, File,
     FormulaDecl, GuardDeclList, Ident, IntList, Last, Num, OpDecl, ParamDecl, PathDecl,

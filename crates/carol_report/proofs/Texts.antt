@@ -5,13 +5,13 @@ use Rattle.std.specs.List.{cons_option, filter_map}
 use Rattle.std.specs.Fmt.{decimal, signed_decimal}
 use Rattle.std.proofs.lemmas.List.{reverse-append, reverse-reverse, length-reverse, append-nil}
 use Rattle.std.proofs.lemmas.Option.{slice_get_within, get_or_from_slice_get}
-use Rattle.carol_history.specs.declared.event.PlainEvent.{PlainEvent}
-use Rattle.carol_history.specs.declared.event.PlainEvent.TheVariants.{Issue, Return, Deliver}
-use Rattle.carol_history.specs.declared.session.PlainCommand.{PlainCommand}
-use Rattle.carol_history.specs.declared.session.PlainSession.{PlainSession}
-use Rattle.carol_history.specs.Sessions.{results}
-use Rattle.carol_history.specs.Setup.{Setup}
-use Rattle.carol_history.specs.Stores.{global, local}
+use Rattle.carol_plain_history.specs.declared.event.PlainEvent.{PlainEvent}
+use Rattle.carol_plain_history.specs.declared.event.PlainEvent.TheVariants.{Issue, Return, Deliver}
+use Rattle.carol_plain_history.specs.declared.session.PlainCommand.{PlainCommand}
+use Rattle.carol_plain_history.specs.declared.session.PlainSession.{PlainSession}
+use Rattle.carol_plain_history.specs.Sessions.{results}
+use Rattle.carol_plain_history.specs.Setup.{Setup}
+use Rattle.carol_plain_history.specs.Stores.{global, local}
 use Rattle.carol_report.specs.Events.{event_text, line_feed}
 use Rattle.carol_report.specs.Report.{commands_text, global_text, report_text, result_text, sessions_text, store_text, stores_text, values_text}
 use Rattle.carol_report.specs.Results.{value_of}

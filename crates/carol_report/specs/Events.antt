@@ -1,8 +1,8 @@
 -- The text of an event.
 use Rattle.std.specs.Prelude.{ℕ, List, [], ◌∷◌, ◌++◌, codes}
 use Rattle.std.specs.Fmt.{decimal, signed_decimal}
-use Rattle.carol_history.specs.declared.event.PlainEvent.{PlainEvent}
-use Rattle.carol_history.specs.declared.event.PlainEvent.TheVariants.{Issue, Return, Deliver}
+use Rattle.carol_plain_history.specs.declared.event.PlainEvent.{PlainEvent}
+use Rattle.carol_plain_history.specs.declared.event.PlainEvent.TheVariants.{Issue, Return, Deliver}
 
 -- the end of a line
 abbrev pub line_feed : List ℕ

@@ -1,12 +1,12 @@
 -- The text of a report.
 use Rattle.std.specs.Prelude.{ℕ, ◌+◌, zero, suc, List, [], ◌∷◌, ◌++◌, codes, length, reverse, ℤ, Option, Some, None, slice_get, flat_map}
 use Rattle.std.specs.Fmt.{decimal, signed_decimal}
-use Rattle.carol_history.specs.declared.event.PlainEvent.{PlainEvent}
-use Rattle.carol_history.specs.declared.session.PlainCommand.{PlainCommand}
-use Rattle.carol_history.specs.declared.session.PlainSession.{PlainSession}
-use Rattle.carol_history.specs.Sessions.{results}
-use Rattle.carol_history.specs.Setup.{Setup}
-use Rattle.carol_history.specs.Stores.{local, global}
+use Rattle.carol_plain_history.specs.declared.event.PlainEvent.{PlainEvent}
+use Rattle.carol_plain_history.specs.declared.session.PlainCommand.{PlainCommand}
+use Rattle.carol_plain_history.specs.declared.session.PlainSession.{PlainSession}
+use Rattle.carol_plain_history.specs.Sessions.{results}
+use Rattle.carol_plain_history.specs.Setup.{Setup}
+use Rattle.carol_plain_history.specs.Stores.{local, global}
 use Rattle.carol_report.specs.Events.{event_text, line_feed}
 
 -- what a command came to: its value, or that it is not done

@@ -1,7 +1,7 @@
 ghost use Rattle.std.specs.Prelude.{◌≡◌, ◌++◌, ◌≤◌, length, reverse, slice_get, IfOk, OnOk};
 ghost use Rattle.std.specs.List.{filter_map};
 ghost use Rattle.std.specs.String.{string_bytes};
-ghost use Rattle.carol_history.specs.Sessions.{results};
+ghost use Rattle.carol_plain_history.specs.Sessions.{results};
 ghost use Rattle.carol_report.specs.Report.{commands_text, sessions_text};
 ghost use Rattle.carol_report.specs.Results.{value_of};
 

@@ -2,8 +2,8 @@
 use Rattle.std.proofs.Common.{◌≡◌, ◌≤◌, ◌<◌, ℕ, List, length, sym, ap, subst, inl, inr, arith}
 use Rattle.std.specs.Prelude.{Some, None}
 use Rattle.std.specs.Io.KnownBytes.{Consumes, IsAtEnd}
-use Rattle.carol_history.specs.Scripts.{Scripted}
-use Rattle.carol_history.specs.Setup.{Setup}
+use Rattle.carol_plain_history.specs.Scripts.{Scripted}
+use Rattle.carol_plain_history.specs.Setup.{Setup}
 use Rattle.carol_syntax.specs.Files.{FileTree}
 use Rattle.carol_syntax_meaning.specs.Outcome.{Read, Bad, Large}
 use Rattle.carol_tool.specs.Answer.{Comes, Done, End, IsOwn, Meant, Means}

@@ -2,8 +2,8 @@
 use Rattle.std.specs.Prelude.{◌≡◌, ◌⊎◌, List, ℕ, [], Some, None, IsSome}
 use Rattle.carol_syntax.specs.Files.{FileTree}
 use Rattle.carol_syntax_meaning.specs.Outcome.{Outcome, Read, Bad, Large, Means as TextMeans}
-use Rattle.carol_history.specs.Setup.{Setup}
-use Rattle.carol_history.specs.Scripts.{Scripted, scripted}
+use Rattle.carol_plain_history.specs.Setup.{Setup}
+use Rattle.carol_plain_history.specs.Scripts.{Scripted, scripted}
 use Rattle.carol_plain.specs.declared.input.PlainInput.{PlainInput}
 use Rattle.carol_plain.specs.Plain.{Stands}
 use Rattle.carol_plain.specs.Start.{setup_of}

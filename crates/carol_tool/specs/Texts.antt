@@ -1,8 +1,8 @@
 -- The texts of the statuses, each ended by a line feed. With Ok a command says a text of its own,
 -- `step` a report; with WriteFault a part of another text was written.
 use Rattle.std.specs.Prelude.{List, ℕ, ◌++◌, codes, decimal}
-use Rattle.carol_history.specs.declared.script.ScriptCause.{ScriptCause}
-use Rattle.carol_history.specs.declared.script.ScriptCause.TheVariants as cause
+use Rattle.carol_plain_history.specs.declared.script.ScriptCause.{ScriptCause}
+use Rattle.carol_plain_history.specs.declared.script.ScriptCause.TheVariants as cause
 use Rattle.carol_outer.specs.declared.whole.ReadError.{ReadError}
 use Rattle.carol_outer.specs.declared.whole.ReadError.TheVariants as read
 use Rattle.carol_report.specs.Events.{line_feed}

@@ -10,9 +10,9 @@ ghost use Rattle.carol_tool.specs.Texts.{
 
 use super::command::Command;
 use super::status::Status;
-use carol_history::{BadLine, ScriptCause};
 use carol_outer::ReadError;
 use carol_parse::TextLimit;
+use carol_plain_history::{BadLine, ScriptCause};
 use std::alloc::{AllocError, Global};
 use std::fmt;
 

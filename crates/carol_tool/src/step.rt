@@ -1,7 +1,7 @@
 ghost use Rattle.std.specs.Prelude.{◌≡◌, ◌≤◌, [], length, map, IfOk, IfSome, IsTrue, ◌↔◌};
 ghost use Rattle.carol_store.specs.declared.shape.CellKind.TheVariants.{Counter};
-ghost use Rattle.carol_history.specs.Scripts.{scripted};
-ghost use Rattle.carol_history.specs.Setup.{IsSetup};
+ghost use Rattle.carol_plain_history.specs.Scripts.{scripted};
+ghost use Rattle.carol_plain_history.specs.Setup.{IsSetup};
 ghost use Rattle.carol_syntax.specs.Files.{file_tree};
 ghost use Rattle.carol_syntax.specs.Limits.{most_text_bytes};
 ghost use Rattle.carol_plain.specs.Start.{setup_of};

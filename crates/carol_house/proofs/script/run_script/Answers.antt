@@ -1,5 +1,5 @@
 use Rattle.std.proofs.Common.{◌+◌, ◌<◌, length, suc, drop, get_or}
-use Rattle.carol_history.specs.declared.script.PlainLine.TheVariants.{Go}
+use Rattle.carol_plain_history.specs.declared.script.PlainLine.TheVariants.{Go}
 use Rattle.carol_house.proofs.Scripts.{Playing-next, Playing-bad, next_line}
 use Rattle.carol_house.proofs.script.run_script.Goals as goal
 

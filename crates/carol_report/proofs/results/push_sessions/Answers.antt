@@ -1,6 +1,6 @@
 use Rattle.std.proofs.Common.{◌≡◌, ◌++◌, reverse, sym, ◌∙◌}
 use Rattle.std.specs.String.{string_bytes}
-use Rattle.carol_history.specs.Sessions.{results}
+use Rattle.carol_plain_history.specs.Sessions.{results}
 use Rattle.carol_report.specs.Report.{sessions_text}
 use Rattle.carol_report.proofs.Texts.{sessions_more, results_are}
 use Rattle.carol_report.proofs.results.push_sessions.Goals as goal

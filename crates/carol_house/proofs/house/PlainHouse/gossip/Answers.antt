@@ -1,5 +1,5 @@
 use Rattle.std.proofs.Common.{◌≡◌, ◌≤◌, rules, Some, None, refl}
-use Rattle.carol_history.specs.Runs.{lowest_missing}
+use Rattle.carol_plain_history.specs.Runs.{lowest_missing}
 use Rattle.carol_house.specs.House.{House, house_of}
 use Rattle.carol_house.proofs.Readers.{found_is, may_deliver}
 use Rattle.carol_house.proofs.house.PlainHouse.gossip.Goals as goal

@@ -1,7 +1,7 @@
 use Rattle.std.proofs.Common.{◌≡◌, ◌≤◌, length, rules, true, false, set, replicate, ap, sym, ◌∙◌}
 use Rattle.std.specs.Vec.{vec_len}
-use Rattle.carol_history.specs.declared.session.PlainSession.{PlainSession}
-use Rattle.carol_history.specs.Journal.{journal}
+use Rattle.carol_plain_history.specs.declared.session.PlainSession.{PlainSession}
+use Rattle.carol_plain_history.specs.Journal.{journal}
 use Rattle.carol_house.specs.House.{House, house_of}
 use Rattle.carol_house.proofs.Kept.{house_of-push, kept_issue, entries_low}
 use Rattle.carol_house.proofs.house.PlainHouse.issue.Goals as goal

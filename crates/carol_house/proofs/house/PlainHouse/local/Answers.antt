@@ -1,5 +1,5 @@
 use Rattle.std.proofs.Common.{◌∙◌}
-use Rattle.carol_history.specs.Journal.{is_held}
+use Rattle.carol_plain_history.specs.Journal.{is_held}
 use Rattle.carol_house.specs.House.{House, house_of}
 use Rattle.carol_house.proofs.Readers.{small_of, entries_fit, taken_held, local_is}
 use Rattle.carol_house.proofs.house.PlainHouse.local.Goals as goal

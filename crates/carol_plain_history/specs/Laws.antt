@@ -3,12 +3,12 @@ use Rattle.std.specs.Prelude.{◌≡◌, ℕ, ◌+◌, ◌*◌, ◌<◌, ◌≤�
 use Rattle.carol_store.specs.Actions.{chosen_from}
 use Rattle.carol_store.specs.Effects.{IsAtomOf}
 use Rattle.carol_store.specs.Stores.{StaysInWords, apply}
-use Rattle.carol_history.specs.declared.event.PlainEvent.{PlainEvent}
-use Rattle.carol_history.specs.declared.event.TheConstants.{MOST_EVENTS}
-use Rattle.carol_history.specs.Setup.{Setup, IsSetup}
-use Rattle.carol_history.specs.Journal.{journal, is_held}
-use Rattle.carol_history.specs.Stores.{local, global, held_store}
-use Rattle.carol_history.specs.Runs.{Run}
+use Rattle.carol_plain_history.specs.declared.event.PlainEvent.{PlainEvent}
+use Rattle.carol_plain_history.specs.declared.event.TheConstants.{MOST_EVENTS}
+use Rattle.carol_plain_history.specs.Setup.{Setup, IsSetup}
+use Rattle.carol_plain_history.specs.Journal.{journal, is_held}
+use Rattle.carol_plain_history.specs.Stores.{local, global, held_store}
+use Rattle.carol_plain_history.specs.Runs.{Run}
 
 -- the entries of a replica give the same store in the order in which they came there and in the
 -- journal's order

@@ -1,8 +1,8 @@
 ghost use Rattle.std.specs.Prelude.{List};
-ghost use Rattle.carol_history.specs.declared.event.PlainEvent.{PlainEvent};
-ghost use Rattle.carol_history.specs.Setup.{Setup};
-ghost use Rattle.carol_history.specs.Runs.{Run};
-ghost use Rattle.carol_history.specs.Laws.{HeldAreEntries, OrdersAgree, ReplicasAgree, StaysSmall};
+ghost use Rattle.carol_plain_history.specs.declared.event.PlainEvent.{PlainEvent};
+ghost use Rattle.carol_plain_history.specs.Setup.{Setup};
+ghost use Rattle.carol_plain_history.specs.Runs.{Run};
+ghost use Rattle.carol_plain_history.specs.Laws.{HeldAreEntries, OrdersAgree, ReplicasAgree, StaysSmall};
 
 use carol_store::store_laws;
 

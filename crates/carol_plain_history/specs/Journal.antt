@@ -3,9 +3,9 @@
 use Rattle.std.specs.Prelude.{ℕ, Bool, false, ◌==◌, ◌&&◌, ◌||◌, List, [], ◌∷◌, ◌++◌, slice_get}
 use Rattle.std.specs.Option.{option_map_or}
 use Rattle.carol_store.specs.declared.effect.Atom.{Atom}
-use Rattle.carol_history.specs.declared.session.PlainSession.{PlainSession}
-use Rattle.carol_history.specs.declared.event.PlainEvent.{PlainEvent}
-use Rattle.carol_history.specs.declared.event.PlainEvent.TheVariants.{Issue, Return, Deliver}
+use Rattle.carol_plain_history.specs.declared.session.PlainSession.{PlainSession}
+use Rattle.carol_plain_history.specs.declared.event.PlainEvent.{PlainEvent}
+use Rattle.carol_plain_history.specs.declared.event.PlainEvent.TheVariants.{Issue, Return, Deliver}
 
 -- the entries of the journal, in order and numbered from 0: the change that each issue made
 abbrev pub journal : List PlainEvent → List Atom

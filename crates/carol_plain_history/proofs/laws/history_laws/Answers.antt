@@ -1,7 +1,7 @@
-use Rattle.carol_history.proofs.Holdings.{held_within}
-use Rattle.carol_history.proofs.Orders.{orders_agree, replicas_agree}
-use Rattle.carol_history.proofs.Small.{stays_small}
-use Rattle.carol_history.proofs.laws.history_laws.Goals as goal
+use Rattle.carol_plain_history.proofs.Holdings.{held_within}
+use Rattle.carol_plain_history.proofs.Orders.{orders_agree, replicas_agree}
+use Rattle.carol_plain_history.proofs.Small.{stays_small}
+use Rattle.carol_plain_history.proofs.laws.history_laws.Goals as goal
 
 pub returns-clause-orders : goal.returns-clause-orders
 returns-clause-orders c = orders_agree c.store_laws.ensures.two

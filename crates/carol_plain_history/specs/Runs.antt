@@ -1,10 +1,10 @@
 -- Which histories the sessions and replicas can make.
 use Rattle.std.specs.Prelude.{ℕ, ◌≡◌, ◌≢◌, ◌+◌, ◌<◌, Bool, true, false, not, ◌&&◌, if◌then◌else◌, List, [], ◌∷◌, length, Option, Some, None, zero, suc}
-use Rattle.carol_history.specs.declared.event.PlainEvent.{PlainEvent}
-use Rattle.carol_history.specs.declared.event.PlainEvent.TheVariants.{Issue, Return, Deliver}
-use Rattle.carol_history.specs.Setup.{Setup}
-use Rattle.carol_history.specs.Journal.{journal, is_held}
-use Rattle.carol_history.specs.Sessions.{next}
+use Rattle.carol_plain_history.specs.declared.event.PlainEvent.{PlainEvent}
+use Rattle.carol_plain_history.specs.declared.event.PlainEvent.TheVariants.{Issue, Return, Deliver}
+use Rattle.carol_plain_history.specs.Setup.{Setup}
+use Rattle.carol_plain_history.specs.Journal.{journal, is_held}
+use Rattle.carol_plain_history.specs.Sessions.{next}
 
 -- one replica passes an entry on that it holds to another one that lacks it
 pub record MayDeliver (setup : Setup) (source target entry : ℕ)

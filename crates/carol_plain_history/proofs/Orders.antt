@@ -12,14 +12,14 @@ use Rattle.carol_store.specs.Laws.{EffectsCommute}
 use Rattle.carol_store.specs.Stores.{apply, with_cell}
 use Rattle.carol_store.proofs.Actions.{act_all-append}
 use Rattle.carol_store.proofs.Chosen.{act_all-chosen, chosen_from-same, chosen_from-all, chosen_from-push}
-use Rattle.carol_history.specs.declared.event.PlainEvent.{PlainEvent}
-use Rattle.carol_history.specs.declared.event.PlainEvent.TheVariants.{Issue, Return, Deliver}
-use Rattle.carol_history.specs.Setup.{Setup}
-use Rattle.carol_history.specs.Journal.{journal, is_at, is_held}
-use Rattle.carol_history.specs.Laws.{OrdersAgree, ReplicasAgree}
-use Rattle.carol_history.specs.Stores.{held_store, local}
-use Rattle.carol_history.specs.Runs.{Run}
-use Rattle.carol_history.proofs.Holdings.{issues, held_within, not_held}
+use Rattle.carol_plain_history.specs.declared.event.PlainEvent.{PlainEvent}
+use Rattle.carol_plain_history.specs.declared.event.PlainEvent.TheVariants.{Issue, Return, Deliver}
+use Rattle.carol_plain_history.specs.Setup.{Setup}
+use Rattle.carol_plain_history.specs.Journal.{journal, is_at, is_held}
+use Rattle.carol_plain_history.specs.Laws.{OrdersAgree, ReplicasAgree}
+use Rattle.carol_plain_history.specs.Stores.{held_store, local}
+use Rattle.carol_plain_history.specs.Runs.{Run}
+use Rattle.carol_plain_history.proofs.Holdings.{issues, held_within, not_held}
 
 -- a new entry, which this replica holds or does not
 issue_at : (shape : List CellKind) (b : Bool) (f : ℕ → Bool) (i : ℕ) (atoms : List Atom) (atom : Atom) (store : List ℤ) → i ≡ length atoms → f (length atoms) ≡ false →

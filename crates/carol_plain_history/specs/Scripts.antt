@@ -1,16 +1,16 @@
 -- The history that a script makes.
 use Rattle.std.specs.Prelude.{ℕ, Bool, ◌+◌, ◌==◌, ◌&&◌, nat_lt, not, if◌then◌else◌, List, [], ◌∷◌, length, Option, Some, None, Result, Ok, Err}
 use Rattle.std.specs.Option.{option_map, ok_or}
-use Rattle.carol_history.specs.declared.event.PlainEvent.{PlainEvent}
-use Rattle.carol_history.specs.declared.event.PlainEvent.TheVariants.{Deliver}
-use Rattle.carol_history.specs.declared.script.PlainLine.{PlainLine}
-use Rattle.carol_history.specs.declared.script.PlainLine.TheVariants.{Go, Gossip}
-use Rattle.carol_history.specs.declared.script.ScriptCause.{ScriptCause}
-use Rattle.carol_history.specs.declared.script.ScriptCause.TheVariants.{NoSuchSession, Finished, NoSuchPair, NothingNew}
-use Rattle.carol_history.specs.declared.script.BadLine.{BadLine}
-use Rattle.carol_history.specs.Setup.{Setup}
-use Rattle.carol_history.specs.Sessions.{next}
-use Rattle.carol_history.specs.Runs.{lowest_missing}
+use Rattle.carol_plain_history.specs.declared.event.PlainEvent.{PlainEvent}
+use Rattle.carol_plain_history.specs.declared.event.PlainEvent.TheVariants.{Deliver}
+use Rattle.carol_plain_history.specs.declared.script.PlainLine.{PlainLine}
+use Rattle.carol_plain_history.specs.declared.script.PlainLine.TheVariants.{Go, Gossip}
+use Rattle.carol_plain_history.specs.declared.script.ScriptCause.{ScriptCause}
+use Rattle.carol_plain_history.specs.declared.script.ScriptCause.TheVariants.{NoSuchSession, Finished, NoSuchPair, NothingNew}
+use Rattle.carol_plain_history.specs.declared.script.BadLine.{BadLine}
+use Rattle.carol_plain_history.specs.Setup.{Setup}
+use Rattle.carol_plain_history.specs.Sessions.{next}
+use Rattle.carol_plain_history.specs.Runs.{lowest_missing}
 
 -- the two replicas are there, and are not the same
 abbrev pub is_pair : Setup → ℕ → ℕ → Bool

@@ -5,8 +5,8 @@ use Rattle.carol_store.specs.declared.shape.CellKind.{CellKind}
 use Rattle.carol_store.specs.declared.effect.Atom.{Atom}
 use Rattle.carol_store.specs.Effects.{IsAtomOf}
 use Rattle.carol_store.specs.Stores.{IsStore}
-use Rattle.carol_history.specs.declared.session.PlainCommand.{PlainCommand}
-use Rattle.carol_history.specs.declared.session.PlainSession.{PlainSession}
+use Rattle.carol_plain_history.specs.declared.session.PlainCommand.{PlainCommand}
+use Rattle.carol_plain_history.specs.declared.session.PlainSession.{PlainSession}
 
 -- the kinds of the cells, the store at the start, the number of replicas, and the sessions
 pub record Setup : Type 0 where

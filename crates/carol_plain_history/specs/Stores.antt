@@ -4,10 +4,10 @@ use Rattle.std.specs.Option.{option_to_list}
 use Rattle.carol_store.specs.declared.effect.Atom.{Atom}
 use Rattle.carol_store.specs.Actions.{chosen_from}
 use Rattle.carol_store.specs.Stores.{apply}
-use Rattle.carol_history.specs.declared.event.PlainEvent.{PlainEvent}
-use Rattle.carol_history.specs.declared.event.PlainEvent.TheVariants.{Issue, Return, Deliver}
-use Rattle.carol_history.specs.Setup.{Setup}
-use Rattle.carol_history.specs.Journal.{journal, is_at, is_held}
+use Rattle.carol_plain_history.specs.declared.event.PlainEvent.{PlainEvent}
+use Rattle.carol_plain_history.specs.declared.event.PlainEvent.TheVariants.{Issue, Return, Deliver}
+use Rattle.carol_plain_history.specs.Setup.{Setup}
+use Rattle.carol_plain_history.specs.Journal.{journal, is_at, is_held}
 
 -- the effect of an entry: its one change, and none where the journal has no such entry
 abbrev pub effect_of : ℕ → List PlainEvent → List Atom

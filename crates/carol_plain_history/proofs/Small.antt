@@ -12,16 +12,16 @@ use Rattle.carol_store.specs.Effects.{IsAmountAt, IsAtomOf}
 use Rattle.carol_store.specs.Kinds.{CellValue}
 use Rattle.carol_store.specs.Laws.{AddsLittle, AreWithin, EffectsAddLittle}
 use Rattle.carol_store.specs.Stores.{StaysInWords, apply, with_cell}
-use Rattle.carol_history.specs.declared.session.PlainCommand.{PlainCommand}
-use Rattle.carol_history.specs.declared.session.PlainSession.{PlainSession}
-use Rattle.carol_history.specs.declared.event.PlainEvent.{PlainEvent}
-use Rattle.carol_history.specs.declared.event.PlainEvent.TheVariants.{Issue, Return, Deliver}
-use Rattle.carol_history.specs.Setup.{Setup, IsSetup, IsSessionOf, change_of}
-use Rattle.carol_history.specs.Journal.{journal}
-use Rattle.carol_history.specs.Laws.{StaysSmall, IsSmall}
-use Rattle.carol_history.specs.Sessions.{results}
-use Rattle.carol_history.specs.Runs.{Run}
-use Rattle.carol_history.proofs.Holdings.{issues}
+use Rattle.carol_plain_history.specs.declared.session.PlainCommand.{PlainCommand}
+use Rattle.carol_plain_history.specs.declared.session.PlainSession.{PlainSession}
+use Rattle.carol_plain_history.specs.declared.event.PlainEvent.{PlainEvent}
+use Rattle.carol_plain_history.specs.declared.event.PlainEvent.TheVariants.{Issue, Return, Deliver}
+use Rattle.carol_plain_history.specs.Setup.{Setup, IsSetup, IsSessionOf, change_of}
+use Rattle.carol_plain_history.specs.Journal.{journal}
+use Rattle.carol_plain_history.specs.Laws.{StaysSmall, IsSmall}
+use Rattle.carol_plain_history.specs.Sessions.{results}
+use Rattle.carol_plain_history.specs.Runs.{Run}
+use Rattle.carol_plain_history.proofs.Holdings.{issues}
 
 -- what holds of each element holds of the one at a place
 All-slice_get : {X : Type 0} (P : X → Type 0) (xs : List X) (i : ℕ) (x : X) → All P xs → slice_get xs i ≡ Some x → P x

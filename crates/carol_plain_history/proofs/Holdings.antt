@@ -2,13 +2,13 @@
 use Rattle.std.proofs.Common.{◌≡◌, ℕ, ◌<◌, ◌≤◌, Bool, true, false, cond, eqb, ◌&&◌, List, [], ◌∷◌, length, ℤ, Option, Some, None, refl, ⊎_elim, arith, length-append}
 use Rattle.std.specs.Option.{option_map}
 use Rattle.std.proofs.lemmas.Bool.{or_cases, and_parts, eqb-true, false_from_ne_true}
-use Rattle.carol_history.specs.declared.session.PlainCommand.{PlainCommand}
-use Rattle.carol_history.specs.declared.event.PlainEvent.{PlainEvent}
-use Rattle.carol_history.specs.declared.event.PlainEvent.TheVariants.{Issue, Return, Deliver}
-use Rattle.carol_history.specs.Setup.{Setup}
-use Rattle.carol_history.specs.Journal.{journal, is_at, is_held}
-use Rattle.carol_history.specs.Sessions.{has_issued, present, next, step_of}
-use Rattle.carol_history.specs.Runs.{Run}
+use Rattle.carol_plain_history.specs.declared.session.PlainCommand.{PlainCommand}
+use Rattle.carol_plain_history.specs.declared.event.PlainEvent.{PlainEvent}
+use Rattle.carol_plain_history.specs.declared.event.PlainEvent.TheVariants.{Issue, Return, Deliver}
+use Rattle.carol_plain_history.specs.Setup.{Setup}
+use Rattle.carol_plain_history.specs.Journal.{journal, is_at, is_held}
+use Rattle.carol_plain_history.specs.Sessions.{has_issued, present, next, step_of}
+use Rattle.carol_plain_history.specs.Runs.{Run}
 
 -- an issue is of the session's present command, and its entry is the journal's next one
 pub record Issues (setup : Setup) (session entry cell : ℕ) (amount : ℤ) (past : List PlainEvent) : Type 0 where
