@@ -9,8 +9,8 @@ use carol_program::Part;
 use carol_store::{Atom, AtomList, Effect, MOST_CELLS, Shape};
 use std::alloc::Global;
 
-// What is done to the cell, if one of the parts is the cell's.
-fn amount_for(cell: u32, parts: &[Part]) -> Option<&Term>
+/// What is done to the cell, if one of the parts is the cell's.
+pub fn amount_for(cell: u32, parts: &[Part]) -> Option<&Term>
     ensures { option_copied result ≡ amount_for cell parts.now }
 {
     let mut left = parts;

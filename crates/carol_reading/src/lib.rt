@@ -10,5 +10,6 @@ mod walk;
 
 pub use accepted::Accepted;
 pub use action::Action;
+pub use effect::amount_for;
 pub use next::next_action;
 pub use walk::Walk;

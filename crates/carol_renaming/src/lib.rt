@@ -44,8 +44,8 @@ fn times(term: &Term, by: i128) -> Result<Term, AllocError>
     }
 }
 
-// The sum of two terms.
-fn plus(one: &Term, other: &Term) -> Result<Term, AllocError>
+/// The sum of two terms that are light enough for a term.
+pub fn plus(one: &Term, other: &Term) -> Result<Term, AllocError>
     requires { weight one.now + weight other.now < term_limit }
     ensures { IfOk result (λ t. t ≡ sum_of one.now other.now) }
 {
