@@ -1,0 +1,7 @@
+pub mod Light
+pub mod Sizes
+pub mod Steps
+mod Parts
+mod Loops
+mod Gathering
+mod Places

@@ -1,0 +1,4 @@
+pub mod Collected
+pub mod Budget
+pub mod Ready
+pub mod Passing

@@ -1,0 +1,20 @@
+use carol_formula::Formula;
+use carol_program::Place;
+use std::alloc::{AllocError, Global};
+
+/// What takes obligations, one after another.
+pub trait Collector {
+    ghost use Rattle.std.specs.Prelude.{◌∷◌, [], List, OnOk};
+    ghost use Rattle.carol_formula.specs.Claim.{Claim};
+    ghost use Rattle.carol_formula.specs.Tree.{claim_of};
+    ghost use Rattle.carol_program.specs.declared.places.Place.{Place};
+    ghost use Rattle.carol_obligation.specs.Budget.{IsDecidable};
+    ghost use Rattle.carol_obligation.specs.Passing.{Passes};
+
+    ghost holds: { Self → List (Place × Claim) → Type 0 };
+
+    /// Takes the formula of a place.
+    fn take(&mut self, alloc: Global, place: Place, formula: Formula) -> Result<(), AllocError>
+        requires { IsDecidable (claim_of formula) }
+        ensures { OnOk result (Passes holds self.old self.new ((place, claim_of formula) ∷ [])) };
+}
