@@ -1,0 +1,6 @@
+pub mod Place
+pub mod Answer
+pub mod Path
+pub mod Near
+pub mod Visit
+pub mod State

@@ -1,0 +1,4 @@
+pub mod Making
+pub mod Marking
+pub mod Naming
+pub mod Following
