@@ -1,0 +1,4 @@
+pub mod Along
+pub mod Known
+pub mod Params
+pub mod Parts
