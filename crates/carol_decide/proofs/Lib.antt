@@ -1,0 +1,11 @@
+pub mod Naming
+pub mod Forking
+pub mod Lists
+pub mod Way
+pub mod Finishing
+pub mod Meeting
+pub mod Filling
+pub mod Counting
+pub mod Looking
+pub mod Walking
+pub mod Settling

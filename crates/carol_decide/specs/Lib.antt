@@ -1,0 +1,10 @@
+pub mod Sizes
+pub mod Makes
+pub mod Case
+pub mod Answer
+pub mod Finished
+pub mod Piece
+pub mod Frames
+pub mod Forks
+pub mod Table
+pub mod State

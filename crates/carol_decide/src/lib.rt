@@ -1,0 +1,48 @@
+//! A decision procedure for formulas of linear comparisons over whole numbers. Each answer carries
+//! its evidence: a refutation, a valuation, or the reason why the formula stays undecided.
+#![tactic(auto)]
+
+ghost use Rattle.std.specs.Prelude.{◌≤◌, IfOk};
+ghost use Rattle.carol_formula.specs.Bounds.{narrow_limit};
+ghost use Rattle.carol_formula.specs.Claim.{HasNoNot, ClaimWithin};
+ghost use Rattle.carol_formula.specs.Tree.{claim_of};
+ghost use Rattle.carol_decide.specs.Sizes.{nodes_of};
+ghost use Rattle.carol_decide.specs.Answer.{IsAnswer, Settles};
+
+mod answer;
+mod attempt;
+mod count;
+mod fitting;
+mod fork;
+mod found;
+mod frame;
+mod piece;
+mod table;
+mod walk;
+
+use crate::walk::Walk;
+pub use answer::{Answer, Why};
+use carol_formula::Formula;
+pub use fitting::can_decide;
+use std::alloc::{AllocError, Global};
+
+/// Decides whether numbers for the variables make the formula true, in at most `leaves` turns:
+/// leaves that close their lists of formulas, and branches. The formula has no `Not` and at most
+/// 65,536 nodes, and each of its numbers is below 2^90 in absolute value. Where each comparison is
+/// a row of differences and there are as many turns as cases, the answer is never `Undecided`.
+pub fn decide(alloc: Global, formula: &Formula, leaves: u32) -> Result<Answer, AllocError>
+    requires no_not { HasNoNot (claim_of formula.now) }
+    requires narrow { ClaimWithin narrow_limit (claim_of formula.now) }
+    requires small { nodes_of (claim_of formula.now) ≤ 65536 }
+    requires some { 1 ≤ leaves }
+    requires most { leaves ≤ 1000000 }
+    ensures answer { IfOk result (IsAnswer (claim_of formula.now) leaves) }
+    ensures settles { IfOk result (Settles (claim_of formula.now) leaves) }
+{
+    let mut walk = Walk::new(alloc, formula, leaves)?;
+    loop {
+        if let Some(answer) = walk.step(alloc, formula)? {
+            return Ok(answer);
+        }
+    }
+}
