@@ -1,0 +1,6 @@
+pub mod Sums
+pub mod Prices
+pub mod Tries
+pub mod Sessions
+pub mod Events
+pub mod Reach

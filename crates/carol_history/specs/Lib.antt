@@ -1,0 +1,11 @@
+pub mod Journals
+pub mod Links
+pub mod Acts
+pub mod Legal
+pub mod Runs
+pub mod Sequential
+pub mod Results
+pub mod Forced
+pub mod Scripts
+pub mod Bounds
+pub mod Laws

@@ -1,0 +1,7 @@
+pub mod Marks
+pub mod Sessions
+pub mod Queries
+pub mod Steps
+pub mod Whole
+pub mod Deciding
+pub mod Going
