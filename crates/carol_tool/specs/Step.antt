@@ -1,6 +1,12 @@
 -- What `step` answers.
 use Rattle.std.specs.Prelude.{◌≡◌, ◌⊎◌, List, ℕ, [], Some, None, IsSome}
-use Rattle.carol_syntax.specs.Files.{FileTree}
+use Rattle.carol_syntax.specs.declared.scenes.SceneDecl.{SceneDecl}
+use Rattle.carol_syntax.specs.Files.{FileTree, ProgramTree}
+use Rattle.carol_resolve_meaning.specs.declared.fault.Fault.{Fault}
+use Rattle.carol_resolve_meaning.specs.Faults.{IsFirst}
+use Rattle.carol_resolve_meaning.specs.Programs.{program_faults, rules_of, names_of}
+use Rattle.carol_scenario.specs.declared.error.SceneError.{SceneError}
+use Rattle.carol_scenario.specs.Faults.{scene_faults, first_of}
 use Rattle.carol_syntax_meaning.specs.Outcome.{Outcome, Read, Bad, Large, Means as TextMeans}
 use Rattle.carol_plain_history.specs.Setup.{Setup}
 use Rattle.carol_plain_history.specs.Scripts.{Scripted, scripted}
@@ -10,6 +16,7 @@ use Rattle.carol_plain.specs.Start.{setup_of}
 use Rattle.carol_report.specs.Report.{report_text}
 use Rattle.carol_tool.specs.Texts.{Answer, line_answer}
 use Rattle.carol_tool.specs.declared.command.Command.TheVariants as command
+use Rattle.carol_tool.specs.declared.reply.Line.{Line}
 use Rattle.carol_tool.specs.declared.reply.Line.TheVariants as line
 use Rattle.carol_tool.specs.declared.status.Status.TheVariants as status
 
@@ -28,20 +35,44 @@ pub record IsPlayed (file : FileTree) (answer : Answer) : Type 0 where
   pub outcome : script_answer (setup_of input) (scripted (setup_of input) 1 input.script [])
       ≡ answer
 
--- a scene and a script stand behind the program
-abbrev pub HasParts : FileTree → Type 0
-HasParts file = IsSome file.scene × IsSome file.script
-
 -- the file is in the plain form
 abbrev pub IsPlain : FileTree → Type 0
 IsPlain file = (input : PlainInput) × Stands file input
 
--- the answer to a file: a part is missing, or the file isn't in the plain form, or it is played
+-- the answer to a file whose program and scene are right: it isn't in the plain form, or it is played
+abbrev pub PlainSays : FileTree → Answer → Type 0
+PlainSays file answer =
+    ((IsPlain file → ⊥) × (answer ≡ line_answer line.NotPlain)) ⊎ IsPlayed file answer
+
+-- what is wrong with a scene of the program
+abbrev pub faults_of : ProgramTree → SceneDecl → List SceneError
+faults_of program scene = scene_faults (rules_of program) (names_of program) scene
+
+-- the answer to a file whose program is right: the first fault of the scene, if there is one
+abbrev pub SceneSays : FileTree → SceneDecl → Answer → Type 0
+SceneSays file scene answer =
+    ((bad : SceneError) × (first_of (faults_of file.program scene) ≡ Some bad) × (answer ≡ line_answer (line.BadScene bad)))
+    ⊎ ((faults_of file.program scene ≡ []) × PlainSays file answer)
+
+-- the line that names a fault of the program
+abbrev pub name_line : Fault → Line
+name_line bad = line.BadName bad.span.line bad.span.column bad.kind
+
+-- the answer to a file with all its parts: the first fault of the program's names, if there is one
+abbrev pub NameSays : FileTree → SceneDecl → Answer → Type 0
+NameSays file scene answer =
+    ((bad : Fault) × IsFirst bad (program_faults file.program) × (answer ≡ line_answer (name_line bad)))
+    ⊎ ((program_faults file.program ≡ []) × SceneSays file scene answer)
+
+-- a scene and a script stand behind the program
+abbrev pub HasParts : FileTree → Type 0
+HasParts file = IsSome file.scene × IsSome file.script
+
+-- the answer to a file: a part is missing, or its names are asked
 abbrev pub FileSays : FileTree → Answer → Type 0
 FileSays file answer =
     ((HasParts file → ⊥) × (answer ≡ line_answer (line.PartMissing command.Step)))
-    ⊎ ((HasParts file × (IsPlain file → ⊥) × (answer ≡ line_answer line.NotPlain))
-    ⊎ (HasParts file × IsPlayed file answer))
+    ⊎ (HasParts file × ((scene : SceneDecl) × (file.scene ≡ Some scene) × NameSays file scene answer))
 
 -- the answer to what reading the bytes came to
 abbrev pub OutcomeSays : Outcome → Answer → Type 0

@@ -6,6 +6,12 @@ use Rattle.carol_plain_history.specs.declared.script.ScriptCause.TheVariants as 
 use Rattle.carol_outer.specs.declared.whole.ReadError.{ReadError}
 use Rattle.carol_outer.specs.declared.whole.ReadError.TheVariants as read
 use Rattle.carol_report.specs.Events.{line_feed}
+use Rattle.carol_resolve_meaning.specs.declared.fault.NameKind.{NameKind}
+use Rattle.carol_resolve_meaning.specs.declared.fault.NameKind.TheVariants as kind
+use Rattle.carol_scenario.specs.declared.error.SceneError.{SceneError}
+use Rattle.carol_scenario.specs.declared.error.SceneError.TheVariants as fault
+use Rattle.carol_scenario.specs.declared.error.SceneLimit.{SceneLimit}
+use Rattle.carol_scenario.specs.declared.error.SceneLimit.TheVariants as range
 use Rattle.carol_syntax_meaning.specs.declared.limit.TextLimit.{TextLimit}
 use Rattle.carol_syntax_meaning.specs.declared.limit.TextLimit.TheVariants as limit
 use Rattle.carol_tool.specs.declared.command.Command.{Command}
@@ -44,6 +50,38 @@ limit_name limit.FormulaNodes = codes "formula nodes"
 limit_name limit.BodyDepth = codes "body depth"
 limit_name limit.ScriptLines = codes "script lines"
 
+-- what is wrong with a name
+abbrev pub kind_name : NameKind → List ℕ
+kind_name kind.Twice = codes "twice"
+kind_name kind.Unknown = codes "unknown"
+kind_name kind.WrongKind = codes "wrong kind"
+kind_name kind.TooMany = codes "too many"
+kind_name kind.TooWide = codes "too wide"
+
+abbrev pub range_name : SceneLimit → List ℕ
+range_name range.Replicas = codes "replicas"
+range_name range.Tries = codes "tries"
+range_name range.Workers = codes "workers"
+range_name range.Gossipers = codes "gossipers"
+range_name range.Sessions = codes "sessions"
+range_name range.Times = codes "times"
+range_name range.Commands = codes "commands"
+
+-- two numbers, the line and the column of a place among them
+abbrev pub two : ℕ → ℕ → List ℕ
+two a b = decimal a ++ (codes " " ++ decimal b)
+
+-- what is wrong with a scene
+abbrev pub scene_text : SceneError → List ℕ
+scene_text (fault.OutOfRange limit span) =
+    codes "range " ++ (two span.line span.column ++ (codes " " ++ range_name limit))
+scene_text (fault.Unknown span) = codes "scene " ++ (two span.line span.column ++ codes " unknown")
+scene_text (fault.Arity span) = codes "scene " ++ (two span.line span.column ++ codes " arity")
+scene_text (fault.NoSuchReplica session) = codes "replica " ++ decimal session
+scene_text (fault.BadArgument session command parameter) =
+    codes "argument " ++ (two session command ++ (codes " " ++ decimal parameter))
+scene_text fault.NoMemory = codes "no memory"
+
 -- why a statement gives no event
 abbrev pub cause_name : ScriptCause → List ℕ
 cause_name cause.NoSuchSession = codes "no such session"
@@ -57,6 +95,9 @@ line_text (line.BadText row column) =
     codes "text " ++ (decimal row ++ (codes " " ++ (decimal column ++ line_feed)))
 line_text (line.TooLarge limit) = codes "too large " ++ (limit_name limit ++ line_feed)
 line_text (line.PartMissing command) = codes "parts " ++ (command_word command ++ line_feed)
+line_text (line.BadName row column bad) =
+    codes "name " ++ (two row column ++ (codes " " ++ (kind_name bad ++ line_feed)))
+line_text (line.BadScene bad) = scene_text bad ++ line_feed
 line_text line.NotPlain = codes "plain form only" ++ line_feed
 line_text (line.BadStatement bad) =
     codes "script " ++ (decimal bad.number ++ (codes " " ++ (cause_name bad.cause ++ line_feed)))

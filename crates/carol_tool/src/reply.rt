@@ -6,6 +6,9 @@ ghost use Rattle.carol_tool.specs.Texts.{
   line_text,
   stop_answer,
   cause_name,
+  kind_name,
+  range_name,
+  scene_text,
 };
 
 use super::command::Command;
@@ -13,6 +16,8 @@ use super::status::Status;
 use carol_outer::ReadError;
 use carol_parse::TextLimit;
 use carol_plain_history::{BadLine, ScriptCause};
+use carol_resolve_meaning::NameKind;
+use carol_scenario::{SceneError, SceneLimit};
 use std::alloc::{AllocError, Global};
 use std::fmt;
 
@@ -90,15 +95,59 @@ impl From<AllocError> for Stop {
 #[derive(Clone, Copy, Debug, PartialEq, Eq)]
 pub enum Line {
     /// The text is bad at this place.
-    BadText { line: u32, column: u32 },
+    BadText {
+        line: u32,
+        column: u32,
+    },
     /// The text passes this limit.
     TooLarge(TextLimit),
     /// The file has no part that the command takes.
     PartMissing(Command),
+    /// A name or a term of the program is wrong, at this place.
+    BadName {
+        line: u32,
+        column: u32,
+        kind: NameKind,
+    },
+    /// The scene is wrong.
+    BadScene(SceneError),
     /// The file isn't in the plain form.
     NotPlain,
     /// A statement of the script gives no event.
     BadStatement(BadLine),
+}
+
+/// The text of what is wrong with a scene.
+#[derive(Clone, Copy, Debug, PartialEq, Eq)]
+pub struct SceneText(pub SceneError);
+
+impl fmt::Display for SceneText {
+    ghost output = { λ said. Some (scene_text said.0) };
+
+    fn fmt<W: fmt::Write>(&self, f: &mut fmt::Formatter<W>) -> fmt::Result {
+        match self.0 {
+            SceneError::OutOfRange(limit, span) => {
+                let (line, column) = (span.line, span.column);
+                let name = range_name(limit);
+                write!(f, "range {line} {column} {name}")
+            }
+            SceneError::Unknown(span) => {
+                let (line, column) = (span.line, span.column);
+                write!(f, "scene {line} {column} unknown")
+            }
+            SceneError::Arity(span) => {
+                let (line, column) = (span.line, span.column);
+                write!(f, "scene {line} {column} arity")
+            }
+            SceneError::NoSuchReplica { session } => write!(f, "replica {session}"),
+            SceneError::BadArgument {
+                session,
+                command,
+                parameter,
+            } => write!(f, "argument {session} {command} {parameter}"),
+            SceneError::NoMemory => write!(f, "no memory"),
+        }
+    }
 }
 
 impl Line {
@@ -124,6 +173,14 @@ impl fmt::Display for Line {
                 writeln!(f, "too large {name}")
             }
             Line::PartMissing(command) => writeln!(f, "parts {command}"),
+            Line::BadName { line, column, kind } => {
+                let kind = kind_name(kind);
+                writeln!(f, "name {line} {column} {kind}")
+            }
+            Line::BadScene(bad) => {
+                let said = SceneText(bad);
+                writeln!(f, "{said}")
+            }
             Line::NotPlain => writeln!(f, "plain form only"),
             Line::BadStatement(bad) => {
                 let number = bad.number;
@@ -153,6 +210,32 @@ fn limit_name(limit: TextLimit) -> &'static str
         TextLimit::FormulaNodes => "formula nodes",
         TextLimit::BodyDepth => "body depth",
         TextLimit::ScriptLines => "script lines",
+    }
+}
+
+fn kind_name(kind: NameKind) -> &'static str
+    ensures { result.now ≡ kind_name kind }
+{
+    match kind {
+        NameKind::Twice => "twice",
+        NameKind::Unknown => "unknown",
+        NameKind::WrongKind => "wrong kind",
+        NameKind::TooMany => "too many",
+        NameKind::TooWide => "too wide",
+    }
+}
+
+fn range_name(limit: SceneLimit) -> &'static str
+    ensures { result.now ≡ range_name limit }
+{
+    match limit {
+        SceneLimit::Replicas => "replicas",
+        SceneLimit::Tries => "tries",
+        SceneLimit::Workers => "workers",
+        SceneLimit::Gossipers => "gossipers",
+        SceneLimit::Sessions => "sessions",
+        SceneLimit::Times => "times",
+        SceneLimit::Commands => "commands",
     }
 }
 

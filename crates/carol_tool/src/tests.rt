@@ -221,7 +221,7 @@ const COUNTER: &[u8] = b"program\ncounter c = 0;\ninvariant true;\nend\n";
 
 #[test]
 fn refuses_texts(rt: HostRuntime) -> Result<(), Fail> {
-    let rows: [([&[u8]; 3], &[u8]); 11] = [
+    let rows: [([&[u8]; 3], &[u8]); 13] = [
         ([b"", b"", b""], b"text 1 1\n"),
         ([PROGRAM, SCENE, b""], b"text 19 1\n"),
         ([b"program\n", b"invariant true;\n", b""], b"text 3 1\n"),
@@ -237,7 +237,23 @@ fn refuses_texts(rt: HostRuntime) -> Result<(), Fail> {
                 b"scene replicas 9; tries 1; workers 1; gossipers 0; ",
                 b"end script end",
             ],
-            b"plain form only\n",
+            b"range 5 16 replicas\n",
+        ),
+        (
+            [
+                PROGRAM,
+                SCENE,
+                b"session at 0 { adda(1000000001); } end script end",
+            ],
+            b"argument 0 0 0\n",
+        ),
+        (
+            [
+                b"program\ncounter a = 0;\ninvariant zz = 0;\nend\n",
+                SCENE,
+                b"end script end",
+            ],
+            b"name 3 11 unknown\n",
         ),
         (
             [

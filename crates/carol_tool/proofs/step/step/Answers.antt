@@ -23,4 +23,4 @@ returns-in-Err-TooLarge c =
     sole_of_bytes large c.args.bytes.now c.one_line-in-Err-TooLarge.result told.0 told.1 (sole_reply (OutcomeSays large) _ c.one_line-in-Err-TooLarge.result refl (λ other h. h) c.one_line-in-Err-TooLarge.ensures)
 
 pub step_file-requires : goal.step_file-requires
-step_file-requires c = c.in-Ok.ensures.size.script
+step_file-requires c = record { shape = c.in-Ok.ensures.shape.program; size = c.in-Ok.ensures.size.program; script = c.in-Ok.ensures.size.script }
