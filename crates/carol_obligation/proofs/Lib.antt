@@ -5,3 +5,4 @@ mod Parts
 mod Loops
 mod Gathering
 mod Places
+mod Handing

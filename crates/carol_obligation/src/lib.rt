@@ -8,10 +8,14 @@
 mod body;
 mod collector;
 mod known;
+mod list;
 mod names;
 mod owed;
 mod rows;
 mod standing;
+mod whole;
 
 pub use body::walk;
 pub use collector::Collector;
+pub use list::{Obligation, ObligationList, obligations};
+pub use whole::walk_all;

@@ -1,0 +1,51 @@
+ghost use Rattle.std.specs.Prelude.{◌≡◌, IfOk};
+ghost use Rattle.carol_program.specs.Rules.{rules_in};
+ghost use Rattle.carol_program.specs.WellFormed.{AreRules};
+ghost use Rattle.carol_obligation_sites.specs.Places.{obligations_of};
+ghost use Rattle.carol_obligation.specs.Listed.{owed_in};
+
+use crate::collector::Collector;
+use crate::whole::walk_all;
+use carol_formula::Formula;
+use carol_program::{Place, Program};
+use sqlite_items::Items;
+use std::alloc::{AllocError, Global};
+
+/// What is owed at a place: the formula is true of exactly the numbers that are no breach there.
+#[derive(Debug, Drop)]
+pub struct Obligation {
+    pub place: Place,
+    pub formula: Formula,
+}
+
+/// Obligations in the order of the text.
+pub type ObligationList = Items<Obligation>;
+
+// Keeps all that it takes.
+#[derive(Drop)]
+struct Keeper {
+    list: ObligationList,
+}
+
+impl Collector for Keeper {
+    ghost use Rattle.std.specs.Prelude.{◌≡◌};
+    ghost use Rattle.carol_obligation.specs.Listed.{owed_in};
+
+    ghost holds = { λ keeper taken. owed_in keeper.list ≡ taken };
+
+    fn take(&mut self, _alloc: Global, place: Place, formula: Formula) -> Result<(), AllocError> {
+        self.list.push(Obligation { place, formula })
+    }
+}
+
+/// All that a program owes, its places in the order of the text.
+pub fn obligations(alloc: Global, program: &Program) -> Result<ObligationList, AllocError>
+    requires { AreRules (rules_in program.now) }
+    ensures { IfOk result (λ list. owed_in list ≡ obligations_of (rules_in program.now)) }
+{
+    let mut keeper = Keeper {
+        list: Items::new(alloc),
+    };
+    walk_all(alloc, program, &mut keeper)?;
+    Ok(keeper.list)
+}

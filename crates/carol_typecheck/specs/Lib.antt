@@ -1,0 +1,5 @@
+pub mod First
+pub mod Formulas
+pub mod Spots
+pub mod Readings
+pub mod Deciding

@@ -1,0 +1,62 @@
+ghost use Rattle.std.specs.Prelude.{◌≡◌, [], List, IfOk};
+ghost use Rattle.carol_formula.specs.Claim.{Claim};
+ghost use Rattle.carol_program.specs.declared.places.Place.{Place as PlaceOf};
+ghost use Rattle.carol_typecheck.specs.Deciding.{IsFoundSoFar};
+ghost use Rattle.carol_typecheck.specs.Formulas.{IsVerdictOn};
+
+use crate::batch::Batch;
+use crate::verdict::Verdict;
+use carol_formula::Formula;
+use carol_obligation::{Collector, Obligation};
+use carol_program::Place;
+use std::alloc::{AllocError, Global};
+
+/// Decides the obligations that it takes, a batch at a time, up to the first that isn't proved.
+#[derive(Drop)]
+pub(crate) struct Decider {
+    batch: Batch,
+    found: Verdict,
+}
+
+impl Decider {
+    pub(crate) fn new(alloc: Global) -> Decider
+        ensures batch { result.batch ≡ [] }
+        ensures found { result.found ≡ Verdict.Good }
+    {
+        Decider {
+            batch: Batch::new(alloc),
+            found: Verdict::Good,
+        }
+    }
+
+    /// The verdict on all that was taken.
+    pub(crate) fn verdict(self, alloc: Global) -> Result<Verdict, AllocError>
+        ensures { IfOk result (λ v. (taken : List (PlaceOf × Claim))
+            → IsFoundSoFar self.found self.batch taken → IsVerdictOn taken v) }
+    {
+        let Decider { batch, found } = self;
+        if found.is_good() {
+            batch.verdict(alloc)
+        } else {
+            Ok(found)
+        }
+    }
+}
+
+impl Collector for Decider {
+    ghost use Rattle.carol_typecheck.specs.Deciding.{IsFoundSoFar};
+
+    ghost holds = { λ decider taken. IsFoundSoFar decider.found decider.batch taken };
+
+    fn take(&mut self, alloc: Global, place: Place, formula: Formula) -> Result<(), AllocError> {
+        if !self.found.is_good() {
+            return Ok(());
+        }
+        self.batch.push(Obligation { place, formula })?;
+        if self.batch.is_full() {
+            self.found = self.batch.verdict(alloc)?;
+            self.batch.clear();
+        }
+        Ok(())
+    }
+}
