@@ -1,0 +1,211 @@
+-- The formulas that are decided are light and have few nodes, and so have their negation forms.
+use Rattle.std.proofs.Common.{ℕ, ◌+◌, ◌*◌, ◌-◌, ◌≤◌, ◌<◌, ◌≡◌, Bool, true, false, List, [], ◌∷◌, length, arith}
+use Rattle.std.specs.Prelude.{⊤, ◌^◌, ℤ, pos, unsigned_abs, ◌==◌, nat_lt, if◌then◌else◌}
+use Rattle.std.proofs.lemmas.Nat.{mul-le}
+use Rattle.carol_store.specs.declared.shape.CellKind.{CellKind}
+use Rattle.carol_store.specs.declared.shape.CellKind.TheVariants.{Counter, Peak, Flag}
+use Rattle.carol_store.specs.declared.direction.Direction.{Direction}
+use Rattle.carol_formula.specs.Bounds.{narrow_limit}
+use Rattle.carol_formula.specs.Claim.{Claim, True, False, Le, Eq, Ne, And, Or, Not, EachTerm, ClaimWithin, without_not}
+use Rattle.carol_formula.specs.Linear.{Linear, IsWithin, difference_of, variable_of, constant_of}
+use Rattle.carol_formula.specs.Weight.{mass, weight}
+use Rattle.carol_formula.proofs.Weights.{weight-sum_of, weight-difference_of, IsWithin-weight}
+use Rattle.carol_renaming.specs.Named.{AllNamed, IsNameable, IsNameableClaim, named_mass, named_weight, named_claim}
+use Rattle.carol_renaming.proofs.Renaming.{weight-named_claim}
+use Rattle.carol_program.specs.Variables.{guard_variables, there_variable}
+use Rattle.carol_program.specs.WellFormed.{AreSmall, IsTermOver, nodes}
+use Rattle.carol_decide.specs.Sizes.{nodes_of}
+use Rattle.carol_accord.specs.Formed.{with_flag, flags, equal_name, equal_claim, stepped_name, step_name, step_claim}
+use Rattle.carol_accord.specs.Parts.{IsGuard, IsLight, most_formula}
+
+-- ---- differences and sums within a limit
+
+pub IsWithin-difference : (limit : ℕ) (s t : Linear) → weight s + weight t < limit → IsWithin limit (difference_of s t)
+IsWithin-difference limit s t h = IsWithin-weight limit (difference_of s t) (omega (arith, weight-difference_of s t))
+
+-- ---- the form without `Not`
+
+pub narrow : (c : Claim) → IsLight c → ClaimWithin narrow_limit c
+narrow True h = tt
+narrow False h = tt
+narrow (Le t) h = IsWithin-weight narrow_limit t (omega (arith, h))
+narrow (Eq t) h = IsWithin-weight narrow_limit t (omega (arith, h))
+narrow (Ne t) h = IsWithin-weight narrow_limit t (omega (arith, h))
+narrow (And a b) h = (narrow a h.0, narrow b h.1)
+narrow (Or a b) h = (narrow a h.0, narrow b h.1)
+narrow (Not a) h = narrow a h
+
+pub narrow_form : (flag : Bool) (c : Claim) → IsLight c → ClaimWithin narrow_limit (without_not flag c)
+narrow_form true True h = tt
+narrow_form false True h = tt
+narrow_form true False h = tt
+narrow_form false False h = tt
+narrow_form true (Le t) h = IsWithin-weight narrow_limit t (omega (arith, h))
+narrow_form false (Le t) h = IsWithin-difference narrow_limit (constant_of (pos 1)) t (omega (arith, h))
+narrow_form true (Eq t) h = IsWithin-weight narrow_limit t (omega (arith, h))
+narrow_form false (Eq t) h = IsWithin-weight narrow_limit t (omega (arith, h))
+narrow_form true (Ne t) h = IsWithin-weight narrow_limit t (omega (arith, h))
+narrow_form false (Ne t) h = IsWithin-weight narrow_limit t (omega (arith, h))
+narrow_form true (And a b) h = (narrow_form true a h.0, narrow_form true b h.1)
+narrow_form false (And a b) h = (narrow_form false a h.0, narrow_form false b h.1)
+narrow_form true (Or a b) h = (narrow_form true a h.0, narrow_form true b h.1)
+narrow_form false (Or a b) h = (narrow_form false a h.0, narrow_form false b h.1)
+narrow_form true (Not a) h = narrow_form false a h
+narrow_form false (Not a) h = narrow_form true a h
+
+pub nodes-form : (flag : Bool) (c : Claim) → nodes_of (without_not flag c) ≤ nodes c
+nodes-form true True = omega arith
+nodes-form false True = omega arith
+nodes-form true False = omega arith
+nodes-form false False = omega arith
+nodes-form true (Le t) = omega arith
+nodes-form false (Le t) = omega arith
+nodes-form true (Eq t) = omega arith
+nodes-form false (Eq t) = omega arith
+nodes-form true (Ne t) = omega arith
+nodes-form false (Ne t) = omega arith
+nodes-form true (And a b) = omega (arith, nodes-form true a, nodes-form true b)
+nodes-form false (And a b) = omega (arith, nodes-form false a, nodes-form false b)
+nodes-form true (Or a b) = omega (arith, nodes-form true a, nodes-form true b)
+nodes-form false (Or a b) = omega (arith, nodes-form false a, nodes-form false b)
+nodes-form true (Not a) = omega (arith, nodes-form false a)
+nodes-form false (Not a) = omega (arith, nodes-form true a)
+
+-- ---- a guard
+
+mass-small : (ps : List (ℕ × ℤ)) → AreSmall ps → mass ps ≤ length ps * 1000000000
+mass-small [] h = omega arith
+mass-small (p ∷ ps) h = omega (arith, h.0, mass-small ps h.1)
+
+few_small : (m n r : ℕ) → m ≤ n * 1000000000 → n ≤ 256 → r ≤ 1000000000000000 → m + r < 618970019642690137449562112
+few_small m n r h k l = omega arith
+
+light_term : (ranges : List (ℕ × ℕ)) (t : Linear) → IsTermOver ranges t → weight t < 2 ^ 89
+light_term ranges t h = few_small (mass t.pairs) (length t.pairs) (unsigned_abs t.rest) (mass-small t.pairs h.small.0) h.short h.small.1
+
+light_guard : (ranges : List (ℕ × ℕ)) (c : Claim) → EachTerm (IsTermOver ranges) c → IsLight c
+light_guard ranges True h = tt
+light_guard ranges False h = tt
+light_guard ranges (Le t) h = light_term ranges t h
+light_guard ranges (Eq t) h = light_term ranges t h
+light_guard ranges (Ne t) h = light_term ranges t h
+light_guard ranges (And a b) h = (light_guard ranges a h.0, light_guard ranges b h.1)
+light_guard ranges (Or a b) h = (light_guard ranges a h.0, light_guard ranges b h.1)
+light_guard ranges (Not a) h = light_guard ranges a h
+
+-- ---- a renamed guard
+
+module _ (can : ℕ → Type 0) (name : ℕ → Linear) (ranges : List (ℕ × ℕ)) (named : (v : ℕ) → can v × (weight (name v) ≤ 2)) where
+  named_pairs : (ps : List (ℕ × ℤ)) → AreSmall ps → AllNamed can ps × (named_mass name ps ≤ length ps * 2000000000)
+  named_pairs [] h = (tt, omega arith)
+  named_pairs (p ∷ ps) h =
+      let one = named p.0 in
+      let more = named_pairs ps h.1 in
+      ((one.0, more.0), omega (arith, mul-le (unsigned_abs p.1) (weight (name p.0)) 1000000000 2 h.0 one.1, more.1))
+
+  few_named : (m n r : ℕ) → m ≤ n * 2000000000 → n ≤ 256 → r ≤ 1000000000000000 → m + r ≤ 1000512000000000
+  few_named m n r h k l = omega arith
+
+  named_light : (t : Linear) → IsTermOver ranges t → IsNameable can name t × (named_weight name t ≤ 1000512000000000)
+  named_light t h =
+      let pairs = named_pairs t.pairs h.small.0 in
+      let few = few_named (named_mass name t.pairs) (length t.pairs) (unsigned_abs t.rest) pairs.1 h.short h.small.1 in
+      (record { named = pairs.0; light = omega (arith, few) }, few)
+
+  pub nameable : (c : Claim) → EachTerm (IsTermOver ranges) c → IsNameableClaim can name c
+  nameable True h = tt
+  nameable False h = tt
+  nameable (Le t) h = (named_light t h).0
+  nameable (Eq t) h = (named_light t h).0
+  nameable (Ne t) h = (named_light t h).0
+  nameable (And a b) h = (nameable a h.0, nameable b h.1)
+  nameable (Or a b) h = (nameable a h.0, nameable b h.1)
+  nameable (Not a) h = nameable a h
+
+  named_weights : (c : Claim) → EachTerm (IsTermOver ranges) c → EachTerm (λ t. named_weight name t ≤ 1000512000000000) c
+  named_weights True h = tt
+  named_weights False h = tt
+  named_weights (Le t) h = (named_light t h).1
+  named_weights (Eq t) h = (named_light t h).1
+  named_weights (Ne t) h = (named_light t h).1
+  named_weights (And a b) h = (named_weights a h.0, named_weights b h.1)
+  named_weights (Or a b) h = (named_weights a h.0, named_weights b h.1)
+  named_weights (Not a) h = named_weights a h
+
+  light_named : (c : Claim) → EachTerm (IsTermOver ranges) c → IsLight (named_claim name c)
+  light_named c h = lighter (named_claim name c) (weight-named_claim name 1000512000000000 c (named_weights c h))
+    where
+      lighter : (d : Claim) → EachTerm (λ t. weight t ≤ 1000512000000000) d → IsLight d
+      lighter True h = tt
+      lighter False h = tt
+      lighter (Le t) h = omega (arith, h)
+      lighter (Eq t) h = omega (arith, h)
+      lighter (Ne t) h = omega (arith, h)
+      lighter (And a b) h = (lighter a h.0, lighter b h.1)
+      lighter (Or a b) h = (lighter a h.0, lighter b h.1)
+      lighter (Not a) h = lighter a h
+
+nodes-named : (name : ℕ → Linear) (c : Claim) → nodes (named_claim name c) ≡ nodes c
+nodes-named name True = omega arith
+nodes-named name False = omega arith
+nodes-named name (Le t) = omega arith
+nodes-named name (Eq t) = omega arith
+nodes-named name (Ne t) = omega arith
+nodes-named name (And a b) = omega (arith, nodes-named name a, nodes-named name b)
+nodes-named name (Or a b) = omega (arith, nodes-named name a, nodes-named name b)
+nodes-named name (Not a) = omega (arith, nodes-named name a)
+
+-- ---- what stands for a cell
+
+either_light : (b : Bool) (s t : Linear) → weight s ≤ 2 → weight t ≤ 2 → weight (if b then s else t) ≤ 2
+either_light true s t h k = h
+either_light false s t h k = k
+
+pub equal_named : (v : ℕ) → ⊤ × (weight (equal_name v) ≤ 2)
+equal_named v = (tt, either_light (nat_lt v 16) (variable_of v) (variable_of (v - 16)) (omega arith) (omega arith))
+
+stepped_light : (kind : CellKind) (up : Bool) (v : ℕ) → weight (stepped_name kind up v) ≤ 2
+stepped_light Counter true v = omega (arith, weight-sum_of (variable_of v) (constant_of (pos 1)))
+stepped_light Counter false v = omega (arith, weight-difference_of (variable_of v) (constant_of (pos 1)))
+stepped_light Peak up v = omega (arith, weight-sum_of (variable_of v) (constant_of (pos 1)))
+stepped_light Flag up v = omega arith
+
+pub step_named : (kind : CellKind) (step : Direction) → step.cell < 16 → (v : ℕ) → (step.cell < 16) × (weight (step_name kind step v) ≤ 2)
+step_named kind step h v = (h, either_light (v == there_variable step.cell) (stepped_name kind step.up v) (variable_of v) (stepped_light kind step.up v) (omega arith))
+
+-- ---- flags
+
+with_flag-light : (kind : CellKind) (v : ℕ) (c : Claim) → IsLight c → IsLight (with_flag kind v c)
+with_flag-light Counter v c h = h
+with_flag-light Peak v c h = h
+with_flag-light Flag v c h = ((omega (arith, weight-difference_of (constant_of (pos 0)) (variable_of v)), omega (arith, weight-difference_of (variable_of v) (constant_of (pos 1)))), h)
+
+with_flag-nodes : (kind : CellKind) (v : ℕ) (c : Claim) → nodes (with_flag kind v c) ≤ nodes c + 4
+with_flag-nodes Counter v c = omega arith
+with_flag-nodes Peak v c = omega arith
+with_flag-nodes Flag v c = omega arith
+
+flags-light : (kinds : List CellKind) (base : ℕ) → IsLight (flags kinds base)
+flags-light [] base = tt
+flags-light (kind ∷ kinds) base = with_flag-light kind base (flags kinds (base + 1)) (flags-light kinds (base + 1))
+
+flags-nodes : (kinds : List CellKind) (base : ℕ) → nodes (flags kinds base) ≤ 4 * length kinds + 1
+flags-nodes [] base = omega arith
+flags-nodes (kind ∷ kinds) base = omega (arith, with_flag-nodes kind base (flags kinds (base + 1)), flags-nodes kinds (base + 1))
+
+-- ---- the formulas
+
+pub equal_light : (kinds : List CellKind) (guard : Claim) → IsGuard kinds guard → IsLight (equal_claim kinds guard)
+equal_light kinds guard g = (flags-light kinds 0, light_named (λ v. ⊤) equal_name (guard_variables (length kinds)) equal_named guard g.over.terms)
+
+pub equal_nodes : (kinds : List CellKind) (guard : Claim) → IsGuard kinds guard → nodes (equal_claim kinds guard) ≤ most_formula
+equal_nodes kinds guard g = omega (arith, flags-nodes kinds 0, nodes-named equal_name guard, g.few, g.over.few)
+
+pub step_light : (kinds : List CellKind) (guard : Claim) (kind : CellKind) (step : Direction) → IsGuard kinds guard → step.cell < 16 → IsLight (step_claim kinds guard kind step)
+step_light kinds guard kind step g h = (
+  (flags-light kinds 0, flags-light kinds 16),
+  (light_guard (guard_variables (length kinds)) guard g.over.terms, light_named (λ v. step.cell < 16) (step_name kind step) (guard_variables (length kinds)) (step_named kind step h) guard g.over.terms),
+)
+
+pub step_nodes : (kinds : List CellKind) (guard : Claim) (kind : CellKind) (step : Direction) → IsGuard kinds guard → nodes (step_claim kinds guard kind step) ≤ most_formula
+step_nodes kinds guard kind step g = omega (arith, flags-nodes kinds 0, flags-nodes kinds 16, nodes-named (step_name kind step) guard, g.few, g.over.few)

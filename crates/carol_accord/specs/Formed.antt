@@ -1,0 +1,54 @@
+-- The formulas that are decided: each is true of exactly the stores at which something fails.
+use Rattle.std.specs.Prelude.{ℕ, ◌+◌, ◌-◌, ◌==◌, nat_lt, Bool, true, false, if◌then◌else◌, List, [], ◌∷◌, pos}
+use Rattle.carol_store.specs.declared.shape.CellKind.{CellKind}
+use Rattle.carol_store.specs.declared.shape.CellKind.TheVariants.{Counter, Peak, Flag}
+use Rattle.carol_store.specs.declared.direction.Direction.{Direction}
+use Rattle.carol_formula.specs.Claim.{Claim, True, Le, And, Not}
+use Rattle.carol_formula.specs.Linear.{Linear, constant_of, variable_of, sum_of, difference_of}
+use Rattle.carol_renaming.specs.Named.{named_claim}
+use Rattle.carol_program.specs.Variables.{cell_variable, there_variable}
+
+-- ---- flags
+
+-- the variable is 0 or 1
+abbrev pub is_flag : ℕ → Claim
+is_flag v = And (Le (difference_of (constant_of (pos 0)) (variable_of v))) (Le (difference_of (variable_of v) (constant_of (pos 1))))
+
+abbrev pub with_flag : CellKind → ℕ → Claim → Claim
+with_flag Flag v claim = And (is_flag v) claim
+with_flag Counter v claim = claim
+with_flag Peak v claim = claim
+
+-- each flag is 0 or 1 in the store whose cells have the variables from this one on
+abbrev pub flags : List CellKind → ℕ → Claim
+flags [] base = True
+flags (kind ∷ kinds) base = with_flag kind base (flags kinds (base + 1))
+
+-- ---- two equal stores
+
+-- a cell is that of the store that is read, in both stores
+abbrev pub equal_name : ℕ → Linear
+equal_name v = if nat_lt v 16 then variable_of v else variable_of (v - 16)
+
+-- the stores are equal, and the guard is false of them
+abbrev pub equal_claim : List CellKind → Claim → Claim
+equal_claim kinds guard = And (flags kinds (cell_variable 0)) (Not (named_claim equal_name guard))
+
+-- ---- a step
+
+-- what a cell of this kind with this variable is after one step up or down
+abbrev pub stepped_name : CellKind → Bool → ℕ → Linear
+stepped_name Counter true v = sum_of (variable_of v) (constant_of (pos 1))
+stepped_name Counter false v = difference_of (variable_of v) (constant_of (pos 1))
+stepped_name Peak up v = sum_of (variable_of v) (constant_of (pos 1))
+stepped_name Flag up v = constant_of (pos 1)
+
+-- a cell is that of its store, but for the one of the global store that makes the step
+abbrev pub step_name : CellKind → Direction → ℕ → Linear
+step_name kind direction v = if v == there_variable direction.cell then stepped_name kind direction.up v else variable_of v
+
+-- the guard is true of two stores, and false after a step in the global one, of a cell of this kind
+abbrev pub step_claim : List CellKind → Claim → CellKind → Direction → Claim
+step_claim kinds guard kind direction =
+    And (And (flags kinds (cell_variable 0)) (flags kinds (there_variable 0)))
+    (And guard (Not (named_claim (step_name kind direction) guard)))

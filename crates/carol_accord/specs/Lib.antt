@@ -1,0 +1,4 @@
+pub mod Broken
+pub mod Formed
+pub mod Inferred
+pub mod Parts
