@@ -1,0 +1,4 @@
+pub mod Named
+pub mod Trails
+pub mod Fitting
+pub mod Lines
