@@ -7,6 +7,8 @@
 
 mod counts;
 mod formulas;
+#[cfg(test)]
+mod tests;
 
 use anyhow::bail;
 use carol_decide::{Answer, Why, can_decide, decide};
