@@ -4,6 +4,7 @@ pub mod Rules
 pub mod Variables
 pub mod Called
 pub mod Accords
+pub mod Admitting
 pub mod Preserving
 pub mod WellFormed
 pub mod Scenes

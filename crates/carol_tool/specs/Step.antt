@@ -13,7 +13,7 @@ use Rattle.carol_plain_history.specs.Scripts.{Scripted, scripted}
 use Rattle.carol_plain.specs.declared.input.PlainInput.{PlainInput}
 use Rattle.carol_plain.specs.Plain.{Stands}
 use Rattle.carol_plain.specs.Start.{setup_of}
-use Rattle.carol_report.specs.Report.{report_text}
+use Rattle.carol_plain_report.specs.Report.{report_text}
 use Rattle.carol_tool.specs.Texts.{Answer, line_answer}
 use Rattle.carol_tool.specs.declared.command.Command.TheVariants as command
 use Rattle.carol_tool.specs.declared.reply.Line.{Line}

@@ -5,7 +5,7 @@ use Rattle.carol_plain_history.specs.declared.script.ScriptCause.{ScriptCause}
 use Rattle.carol_plain_history.specs.declared.script.ScriptCause.TheVariants as cause
 use Rattle.carol_outer.specs.declared.whole.ReadError.{ReadError}
 use Rattle.carol_outer.specs.declared.whole.ReadError.TheVariants as read
-use Rattle.carol_report.specs.Events.{line_feed}
+use Rattle.carol_plain_report.specs.Events.{line_feed}
 use Rattle.carol_resolve_meaning.specs.declared.fault.NameKind.{NameKind}
 use Rattle.carol_resolve_meaning.specs.declared.fault.NameKind.TheVariants as kind
 use Rattle.carol_scenario.specs.declared.error.SceneError.{SceneError}

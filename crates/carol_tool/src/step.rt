@@ -16,11 +16,11 @@ ghost use Rattle.carol_tool.specs.Step.{StepSays, FileSays, NameSays, PlainSays,
 use super::command::Command;
 use super::reply::{Line, Reply, one_line};
 use super::status::Status;
-use carol_house::{MOST_EVENTS, PlainHouse, Played, run_script};
+use carol_plain_house::{MOST_EVENTS, PlainHouse, Played, run_script};
 use carol_parse::{TextError, parse};
 use carol_plain::{PlainError, PlainInput, plain_input};
 use carol_program::Program;
-use carol_report::report;
+use carol_plain_report::report;
 use carol_resolve::{NameError, resolve};
 use carol_scenario::{SceneError, scene};
 use carol_store::{CellKind, Shape, Store};
