@@ -4,8 +4,6 @@ use Rattle.std.specs.Prelude.{◌⊎◌, Option, Some, None, slice_get}
 use Rattle.std.specs.List.{AllByRecursion, cons_option}
 use Rattle.std.specs.Option.{option_and_then, option_map}
 use Rattle.std.proofs.lemmas.Bool.{cases_Bool, cases_lt}
-use Rattle.carol_store.specs.declared.shape.CellKind.{CellKind}
-use Rattle.carol_store.specs.declared.shape.CellKind.TheVariants.{Counter, Peak, Flag}
 use Rattle.carol_store.specs.declared.direction.Direction.{Direction}
 use Rattle.carol_store.specs.declared.effect.Atom.{Atom}
 use Rattle.carol_store.specs.Directions.{directions}
@@ -17,6 +15,7 @@ use Rattle.carol_program.specs.declared.scenes.Scene.{Scene}
 use Rattle.carol_program.specs.Accords.{Accords, HasWay, entry_of}
 use Rattle.carol_program.specs.Preserving.{IsRight, Preserves, Within}
 use Rattle.carol_program.specs.Rules.{Rules}
+use Rattle.carol_program.proofs.Directions.{way_there}
 use Rattle.carol_event.specs.declared.event.Event.{Event}
 use Rattle.carol_history.specs.Journals.{effect_at, is_held}
 use Rattle.carol_history.specs.Legal.{Admits, AdmitsIn, IsSettled}
@@ -47,25 +46,6 @@ search_below P decide (suc n) = further (search_below P decide n) (decide n)
     ])
 
 -- ---- what guards admit
-
--- a way that an atom takes is one of its cell's
-way_there : (kinds : List CellKind) (cell : ℕ) (value : ℤ) (up : Bool) → option_and_then (λ kind. way kind value) (slice_get kinds cell) ≡ Some up → HasWay kinds cell up
-way_there [] cell value up e = absurd (nothing e)
-  where
-    nothing : None ≡ Some up → ⊥
-    nothing q = cc
-way_there (Counter ∷ kinds) zero value up e = tt
-way_there (Peak ∷ kinds) zero value true e = tt
-way_there (Peak ∷ kinds) zero value false e = absurd (only_up e)
-  where
-    only_up : Some true ≡ Some false → ⊥
-    only_up q = cc
-way_there (Flag ∷ kinds) zero value true e = tt
-way_there (Flag ∷ kinds) zero value false e = absurd (only_up e)
-  where
-    only_up : Some true ≡ Some false → ⊥
-    only_up q = cc
-way_there (kind ∷ kinds) (suc cell) value up e = way_there kinds cell value up e
 
 is_yes : (o : Option Entry) → Decided (o ≡ Some Yes)
 is_yes None = inr (λ e. nothing e)
