@@ -1,0 +1,6 @@
+mod Lists
+mod Sound
+mod Sessions
+mod Entries
+mod Eventful
+mod Entering

@@ -8,7 +8,7 @@ use Rattle.carol_program.specs.declared.scenes.Scene.{Scene}
 use Rattle.carol_reading.specs.Kept.{MayBeKept}
 use Rattle.carol_event.specs.declared.event.Event.{Event}
 use Rattle.carol_history.specs.declared.history.TheConstants.{MOST_EVENTS}
-use Rattle.carol_history.specs.Acts.{acts, is_live}
+use Rattle.carol_history.specs.Acts.{Act, acts, is_live}
 use Rattle.carol_history.specs.Journals.{journal, is_held, local, global}
 use Rattle.carol_history.specs.Legal.{IsSettled}
 use Rattle.carol_history.specs.Links.{is_joined}
@@ -28,16 +28,16 @@ are_joined joined a b = get_or (get_or joined a []) b true
 abbrev pub settled_below : List (List ℕ) → ℕ → ℕ → ℕ
 settled_below settled replica guard = get_or (get_or settled replica []) guard 0
 
--- the machine is the session's
+-- the machine is that of the session that did this
 pub record IsMachineOf
-    (scene : Scene) (past : List Event) (session : ℕ) (m : SessionState) : Type 0 where
+    (scene : Scene) (session : ℕ) (done : List Act) (m : SessionState) : Type 0 where
   pub planned : slice_get scene.sessions session ≡ Some m.plan
   pub tries : m.tries ≡ scene.tries
-  pub at : IsAt m (acts session past)
+  pub at : IsAt m done
 
 abbrev pub AreMachines : Scene → List Event → List SessionState → Type 0
 AreMachines scene past machines = (session : ℕ) (m : SessionState) →
-    slice_get machines session ≡ Some m → IsMachineOf scene past session m
+    slice_get machines session ≡ Some m → IsMachineOf scene session (acts session past) m
 
 abbrev pub AreGrants : List Event → Grants → Type 0
 AreGrants past grants = (session guard : ℕ) →
@@ -55,16 +55,15 @@ abbrev pub AreJoined : List Event → List (List Bool) → Type 0
 AreJoined past joined = (a b : ℕ) → a < most_replicas → b < most_replicas →
     are_joined joined a b ≡ is_joined a b past
 
--- each entry below is one of the journal, and the replica holds it or the guard admits it
-pub record IsSettledBelow
-    (p : Rules) (scene : Scene) (past : List Event) (replica guard below : ℕ) : Type 0 where
-  pub inside : below ≤ length (journal past)
-  pub each : (entry : ℕ) → entry < below → IsSettled p scene replica guard entry past
+-- the entries below are in the journal, and the replica holds each or the guard admits it
+abbrev pub AreSettledBelow : Rules → Scene → List Event → ℕ → ℕ → ℕ → Type 0
+AreSettledBelow p scene past replica guard below = (below ≤ length (journal past))
+    × ((entry : ℕ) → entry < below → IsSettled p scene replica guard entry past)
 
 abbrev pub AreSettled : Rules → Scene → List Event → List (List ℕ) → Type 0
 AreSettled p scene past settled = (replica guard : ℕ) →
     replica < scene.replicas → guard < length p.guards →
-    IsSettledBelow p scene past replica guard (settled_below settled replica guard)
+    AreSettledBelow p scene past replica guard (settled_below settled replica guard)
 
 -- the tables say what the history says: of the sessions, the grants, who holds which entries, the
 -- entries, the stores, the links, and up to where all entries are settled

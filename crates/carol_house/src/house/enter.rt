@@ -1,6 +1,7 @@
 ghost use Rattle.std.specs.Prelude.{◌≡◌, ℕ, ◌<◌, ◌≤◌, length, if◌then◌else◌, Some, slice_get};
 ghost use Rattle.carol_event.specs.declared.event.Event.TheVariants.{Grant, Query, Issue, Release, Return, Refuse, Deliver};
 ghost use Rattle.carol_history.specs.Legal.{Legal};
+ghost use Rattle.carol_house.specs.Moves.{link_event};
 
 use crate::house::House;
 use carol_event::{Cause, Event};
@@ -12,7 +13,6 @@ use carol_store::{AtomList, Effect, Store, store_laws};
 /// Entering an event that may come next, for which there is room. It can't fail.
 impl House {
     ghost use Rattle.carol_house.specs.House.{Enters, rules_of};
-    ghost use Rattle.carol_house.specs.Moves.{link_event};
 
     /// Enters the event.
     pub(crate) fn enter(&mut self, event: Event)

@@ -1,5 +1,6 @@
 ghost use Rattle.std.specs.Prelude.{◌≡◌, ◌<◌, ◌≤◌, true, length, IfOk, IfErr, OnOk};
 ghost use Rattle.carol_history.specs.Legal.{MayLink};
+ghost use Rattle.carol_house.specs.Moves.{kind_of};
 
 use crate::error::HouseError;
 use crate::house::House;
@@ -12,7 +13,7 @@ use std::alloc::AllocError;
 impl House {
     ghost use Rattle.carol_house.specs.House.{Rests};
     ghost use Rattle.carol_house.specs.Moves.{Admits, Advances, FailsToAdmit, FailsToAdvance};
-    ghost use Rattle.carol_house.specs.Moves.{FailsToGossip, FailsToLink, Gossips, Links, kind_of};
+    ghost use Rattle.carol_house.specs.Moves.{FailsToGossip, FailsToLink, Gossips, Links};
 
     /// The session, which is in range, makes the one step that it can make: its own, or the delivery
     /// of the lowest entry that it waits for. `Finished` is answered exactly where all its commands
