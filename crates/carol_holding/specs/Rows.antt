@@ -1,7 +1,7 @@
 -- What is kept of one replica.
-use Rattle.std.specs.Prelude.{◌≡◌, ℕ, ◌+◌, ◌-◌, ◌<◌, ◌≤◌, Bool, true, false, List, [], ◌∷◌, map, Option, Some, None}
+use Rattle.std.specs.Prelude.{◌≡◌, ℕ, ◌+◌, ◌<◌, ◌≤◌, Bool, true, false, ◌==◌, if◌then◌else◌, List, [], ◌∷◌, length, get_or, map, Option, Some, None, Result, Ok, Err}
 use Rattle.carol_holding.specs.declared.row.TheConstants.{MOST_ENTRIES}
-use Rattle.carol_holding.specs.Held.{HeldBy, has_entry}
+use Rattle.carol_holding.specs.Held.{HeldBy, has_entry, is_listed}
 
 -- what the replica holds, and room for so many entries more
 pub record HeldRow : Type 0 where
@@ -17,6 +17,25 @@ Rises least (e ∷ es) = (least ≤ e) × (e < MOST_ENTRIES) × Rises (e + 1) es
 -- entry that isn't held
 abbrev pub IsSettled : HeldBy → Type 0
 IsSettled held = (held.front ≤ MOST_ENTRIES) × Rises (held.front + 1) held.above
+
+-- the entry is the first of the list
+abbrev pub starts_with : List ℕ → ℕ → Bool
+starts_with [] entry = false
+starts_with (e ∷ es) entry = e == entry
+
+-- the front moved on over the listed entries that follow it without a gap
+abbrev pub settled : ℕ → List ℕ → HeldBy
+settled front [] = record { front = front; above = [] }
+settled front (e ∷ es) =
+    if e == front then settled (front + 1) es else record { front = front; above = e ∷ es }
+
+-- the entry is listed; or it isn't, and this is its place between the lower and the higher ones
+abbrev pub IsPlace : List ℕ → ℕ → Result ℕ ℕ → Type 0
+IsPlace list entry (Ok i) = is_listed list entry ≡ true
+IsPlace list entry (Err i) =
+    (is_listed list entry ≡ false) × (i ≤ length list)
+    × ((k : ℕ) → k < i → get_or list k 0 < entry)
+    × ((k : ℕ) → i ≤ k → k < length list → entry < get_or list k 0)
 
 -- nothing is held
 abbrev pub nothing : HeldBy

@@ -1,7 +1,8 @@
-ghost use Rattle.std.specs.Prelude.{◌≡◌, ℕ, ◌<◌, length, true, false, IfOk};
-ghost use Rattle.carol_holding.specs.Held.{holds};
+ghost use Rattle.std.specs.Prelude.{◌≡◌, ℕ, ◌<◌, ◌≤◌, length, true, false, IfOk, OnOk, OnErr};
+ghost use Rattle.carol_holding.specs.Held.{Adds, IsFirstMissing, holds};
+ghost use Rattle.carol_holding.specs.Rows.{HaveRoom, held_by};
 
-use crate::row::Row;
+use crate::row::{MOST_ENTRIES, Row};
 use std::alloc::{AllocError, Global};
 use std::marker::Model;
 
@@ -54,4 +55,49 @@ impl Holding {
     {
         self.rows[replica as usize].front()
     }
+
+    /// The lowest entry that the one replica holds and the other lacks. Both are in range.
+    pub fn first_missing(&self, from: u32, to: u32) -> Option<u32>
+        requires from { from < length self.now.replicas }
+        requires to { to < length self.now.replicas }
+        ensures { IsFirstMissing self.now from to result }
+    {
+        self.rows[from as usize].first_beyond(&self.rows[to as usize])
+    }
+
+    /// Takes memory for this many entries more. Where there is none nothing changes.
+    pub fn reserve(&mut self, entries: u32) -> Result<(), AllocError>
+        requires { entries ≤ MOST_ENTRIES }
+        ensures ok { OnOk result (entries ≤ self.new.spare) }
+        ensures replicas { self.new.replicas ≡ self.old.replicas }
+        ensures grows { self.old.spare ≤ self.new.spare }
+        ensures err { OnErr result (self.new ≡ self.old) }
+    {
+        reserve_all(&mut self.rows, entries)?;
+        self.spare = self.spare.max(entries);
+        Ok(())
+    }
+
+    /// The replica, which is in range, holds this entry too. Memory was taken for one more.
+    pub fn add(&mut self, replica: u32, entry: u32)
+        requires spare { 1 ≤ self.old.spare }
+        requires replica { replica < length self.old.replicas }
+        requires entry { entry < MOST_ENTRIES }
+        ensures { Adds self.old replica entry self.new }
+    {
+        self.rows[replica as usize].add(entry);
+        self.spare -= 1;
+    }
+}
+
+// Takes room for this many entries more in each row.
+fn reserve_all(rows: &mut Vec<Row>, entries: u32) -> Result<(), AllocError>
+    ensures held { held_by rows.new.items ≡ held_by rows.old.items }
+    ensures room { (n : ℕ) → HaveRoom n rows.old.items → HaveRoom n rows.new.items }
+    ensures ok { OnOk result (HaveRoom entries rows.new.items) }
+{
+    for row in rows.iter_mut() {
+        row.reserve(entries)?;
+    }
+    Ok(())
 }
