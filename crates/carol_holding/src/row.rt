@@ -1,5 +1,5 @@
-ghost use Rattle.std.specs.Prelude.{◌≡◌, ℕ, ◌+◌, ◌<◌, ◌≤◌, ◌==◌, ◌||◌, false, length, OnOk};
-ghost use Rattle.std.specs.List.{insert};
+ghost use Rattle.std.specs.Prelude.{◌≡◌, ℕ, ◌+◌, ◌<◌, ◌≤◌, ◌==◌, ◌||◌, false, not, length, OnOk};
+ghost use Rattle.std.specs.List.{find, insert};
 ghost use Rattle.std.specs.VecDeque.{deque_len, deque_capacity};
 ghost use Rattle.carol_holding.specs.Held.{has_entry};
 ghost use Rattle.carol_holding.specs.Rows.{
@@ -74,7 +74,7 @@ impl Row {
         if other.front < self.front {
             return Some(other.front);
         }
-        self.above.iter().copied().find(|entry| !other.has(*entry))
+        first_lacked(&self.above, other)
     }
 
     /// Takes room for this many entries more. What is held stays, whatever is answered.
@@ -114,6 +114,13 @@ fn place_in(list: &VecDeque<u32>, entry: u32) -> Result<usize, usize>
     ensures { IsPlace list.now.items entry result }
 {
     list.binary_search(&entry)
+}
+
+// The first of the entries that the row lacks.
+fn first_lacked(list: &VecDeque<u32>, row: &Row) -> Option<u32>
+    ensures { result ≡ find (λ entry. not (has_entry row.now.held entry)) list.now.items }
+{
+    list.iter().copied().find(|entry| !row.has(*entry))
 }
 
 // Inserts the entry. There is room for one.
