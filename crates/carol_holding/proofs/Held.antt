@@ -1,7 +1,7 @@
 -- What one replica holds.
-use Rattle.std.proofs.Common.{◌≡◌, ℕ, ◌+◌, ◌<◌, ◌≤◌, zero, suc, Bool, true, false, eqb, ltb, not, ◌||◌, ◌⊎◌, List, [], ◌∷◌, Option, Some, None, Err, inl, inr, refl, sym, ◌∙◌, ap, subst, arith}
+use Rattle.std.proofs.Common.{◌≡◌, ℕ, ◌+◌, ◌<◌, ◌≤◌, Bool, true, false, eqb, ltb, not, ◌||◌, ◌⊎◌, List, [], ◌∷◌, Option, Some, None, Err, inl, inr, refl, sym, ◌∙◌, subst, arith}
 use Rattle.std.specs.List.{find, insert}
-use Rattle.std.proofs.lemmas.Bool.{cases_Bool, cases_eq, cases_lt, cases_order, eq-eqb, eqb-true, ne_eqb, lt-ltb, ltb-true, le-ltb}
+use Rattle.std.proofs.lemmas.Bool.{cases_Bool, cases_eq, cases_lt, cases_order, eq-eqb, ne_eqb, lt-ltb, le-ltb}
 use Rattle.carol_holding.specs.declared.row.TheConstants.{MOST_ENTRIES}
 use Rattle.carol_holding.specs.Held.{HeldBy, has_entry, is_listed}
 use Rattle.carol_holding.specs.Rows.{IsFirstLacked, IsPlace, IsSettled, Rises, settled}

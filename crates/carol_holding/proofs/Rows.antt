@@ -1,8 +1,8 @@
 -- The rows of all replicas.
-use Rattle.std.proofs.Common.{◌≡◌, ◌≢◌, ℕ, ◌+◌, ◌<◌, ◌≤◌, zero, suc, Bool, true, false, eqb, ◌||◌, ◌&&◌, List, [], ◌∷◌, ◌++◌, length, map, set, take, drop, get_or, append-nil, Option, Some, None, refl, sym, ◌∙◌, ap, inl, inr, arith}
+use Rattle.std.proofs.Common.{◌≡◌, ◌≢◌, ℕ, ◌<◌, ◌≤◌, zero, suc, Bool, true, false, eqb, ◌||◌, ◌&&◌, List, [], ◌∷◌, ◌++◌, length, set, take, drop, get_or, append-nil, Option, Some, None, refl, sym, ◌∙◌, ap, subst, inl, inr, arith}
 use Rattle.std.proofs.Math.Seq.{take-length, drop-length, map-set_same}
 use Rattle.std.proofs.lemmas.Bool.{cases_eq, eq-eqb, le-ltb, ne_eqb}
-use Rattle.carol_holding.specs.Held.{HeldBy, IsFirstMissing, has_at, has_entry}
+use Rattle.carol_holding.specs.Held.{IsFirstMissing, has_at, has_entry}
 use Rattle.carol_holding.specs.Rows.{HaveRoom, HeldRow, IsFirstLacked, held_by, nothing}
 
 -- what a replica holds, by the row that was read
@@ -79,14 +79,14 @@ HaveRoom-set n (row ∷ rows) zero new le h = (le, h.1)
 HaveRoom-set n (row ∷ rows) (suc replica) new le h = (h.0, HaveRoom-set n rows replica new le h.1)
 
 -- one row was given more room
-pub HaveRoom-grown : (n : ℕ) (rows : List HeldRow) (replica : ℕ) (old new : HeldRow) → old ≡ get_or rows replica old → old.room ≤ new.room → HaveRoom n rows → HaveRoom n (set rows replica new)
-HaveRoom-grown n [] replica old new is le h = tt
-HaveRoom-grown n (row ∷ rows) zero old new is le h = (let e : old.room ≡ row.room = ap (λ (r : HeldRow). r.room) is in omega (arith, h.0), h.1)
-HaveRoom-grown n (row ∷ rows) (suc replica) old new is le h = (h.0, HaveRoom-grown n rows replica old new is le h.1)
+pub HaveRoom-grown : (n : ℕ) (rows : List HeldRow) (replica : ℕ) (new d : HeldRow) → (get_or rows replica d).room ≤ new.room → HaveRoom n rows → HaveRoom n (set rows replica new)
+HaveRoom-grown n [] replica new d le h = tt
+HaveRoom-grown n (row ∷ rows) zero new d le h = (omega (arith, h.0, le), h.1)
+HaveRoom-grown n (row ∷ rows) (suc replica) new d le h = (h.0, HaveRoom-grown n rows replica new d le h.1)
 
 -- what is held stays where a row's does
-pub held_by-set : (rows : List HeldRow) (replica : ℕ) (old new : HeldRow) → old ≡ get_or rows replica old → new.held ≡ old.held → held_by (set rows replica new) ≡ held_by rows
-held_by-set rows replica old new is same = map-set_same (λ (row : HeldRow). row.held) rows replica new old (same ∙ ap (λ (row : HeldRow). row.held) is)
+pub held_by-set : (rows : List HeldRow) (replica : ℕ) (new d : HeldRow) → new.held ≡ (get_or rows replica d).held → held_by (set rows replica new) ≡ held_by rows
+held_by-set rows replica new d same = map-set_same (λ (row : HeldRow). row.held) rows replica new d same
 
 -- so were all rows before it, and now it has room too
 pub HaveRoom-more : (n i : ℕ) (rows : List HeldRow) (new : HeldRow) → i < length rows → HaveRoom n (take i rows) → n ≤ new.room → HaveRoom n (take (suc i) (set rows i new))
@@ -94,6 +94,12 @@ HaveRoom-more n i [] new h before le = absurd (omega arith)
 HaveRoom-more n zero (row ∷ rows) new h before le = (le, tt)
 HaveRoom-more n (suc i) (row ∷ rows) new h before le = (before.0, HaveRoom-more n i rows new (omega arith) before.1 le)
 
--- a list that was written through a slice
+-- rows that were written through a slice
 pub refilled : (n : ℕ) (before after : List HeldRow) → n ≡ length before → length after ≡ length before → take n (after ++ drop (length after) before) ≡ after
 refilled n before after e same = rw (same, drop-length, append-nil, e, ← same, take-length) refl
+
+pub held_by-refilled : (n : ℕ) (before after : List HeldRow) → n ≡ length before → length after ≡ length before → held_by after ≡ held_by before → held_by (take n (after ++ drop (length after) before)) ≡ held_by before
+held_by-refilled n before after e same is = ap (λ (rows : List HeldRow). held_by rows) (refilled n before after e same) ∙ is
+
+pub HaveRoom-refilled : (n : ℕ) (before after : List HeldRow) → n ≡ length before → length after ≡ length before → (m : ℕ) → HaveRoom m after → HaveRoom m (take n (after ++ drop (length after) before))
+HaveRoom-refilled n before after e same m h = subst (λ (rows : List HeldRow). HaveRoom m rows) (sym (refilled n before after e same)) h

@@ -1,4 +1,5 @@
-use Rattle.std.proofs.Common.{◌≡◌, arith}
+use Rattle.std.proofs.Common.{inl, inr, arith}
+use Rattle.std.proofs.lemmas.Bool.{cases_lt}
 use Rattle.carol_holding.proofs.Rows.{HaveRoom-less}
 use Rattle.carol_holding.proofs.holding.Holding.reserve.Goals as goal
 
@@ -6,4 +7,7 @@ pub invariant_of-self : goal.invariant_of-self
 invariant_of-self c = c.reserve_all.ensures.room c.self.inside.spare c.self.invariant
 
 pub invariant_of-self-2 : goal.invariant_of-self-2
-invariant_of-self-2 c = ?
+invariant_of-self-2 c = elim (cases_lt c.self.inside.spare c.args.entries) [
+  | inl less ↦ HaveRoom-less c.max-self-inside.result c.args.entries c.reserve_all.new.rows.items (omega arith) c.in_ok-reserve_all.ensures.ok
+  | inr more ↦ HaveRoom-less c.max-self-inside.result c.self.inside.spare c.reserve_all.new.rows.items (omega arith) (c.reserve_all.ensures.room c.self.inside.spare c.self.invariant)
+]

@@ -1,8 +1,7 @@
-use Rattle.std.proofs.Common.{◌≡◌, ◌<◌, ◌+◌, sym, ◌∙◌, ap, rules, arith}
-use Rattle.carol_holding.specs.Held.{HeldBy}
+use Rattle.std.proofs.Common.{◌+◌, ◌∙◌, ap, arith}
 use Rattle.carol_holding.specs.Rows.{settled}
 use Rattle.carol_holding.proofs.Listed.{Rises-from}
-use Rattle.carol_holding.proofs.Held.{IsSettled-front, IsSettled-listed, adds_front, adds_held, adds_listed}
+use Rattle.carol_holding.proofs.Held.{IsSettled-front, IsSettled-listed, adds_front, adds_listed}
 use Rattle.carol_holding.proofs.row.Row.add.Goals as goal
 
 pub place_in-requires : goal.place_in-requires

@@ -1,4 +1,3 @@
-use Rattle.carol_holding.specs.Held.{HeldBy}
 use Rattle.carol_holding.proofs.Held.{beyond_front, beyond_listed}
 use Rattle.carol_holding.proofs.row.Row.first_beyond.Goals as goal
 
