@@ -7,3 +7,6 @@ mod row;
 
 pub use holding::Holding;
 pub use row::MOST_ENTRIES;
+
+#[cfg(test)]
+mod tests;

@@ -59,8 +59,8 @@ impl Replicas {
         self.locals[replica as usize].apply(shape, effect);
     }
 
-    /// The same at the replica, which is in range, and at the store of all entries, with the same
-    /// conditions.
+    /// Applies the effect to the store of the replica, which is in range, and to the store of all
+    /// entries. The effect fits the shape of the stores, and no cell leaves its word.
     pub fn issue(&mut self, shape: &Shape, replica: u32, effect: &Effect)
         requires replica { replica < length self.old.locals }
         requires store { IsStore shape.now (local_at self.old replica) }
@@ -72,7 +72,7 @@ impl Replicas {
         ensures global { self.new.global ≡ apply shape.now effect.now self.old.global }
     {
         self.global.apply(shape, effect);
-        self.locals[replica as usize].apply(shape, effect);
+        self.arrive(shape, replica, effect);
     }
 
     /// The store of the replica, which is in range.
