@@ -1,5 +1,6 @@
 -- The rows of all replicas.
-use Rattle.std.proofs.Common.{◌≡◌, ◌≢◌, ℕ, ◌<◌, ◌≤◌, zero, suc, Bool, true, false, eqb, ◌||◌, ◌&&◌, List, [], ◌∷◌, ◌++◌, length, set, take, drop, get_or, append-nil, Option, Some, None, refl, sym, ◌∙◌, ap, subst, inl, inr, arith}
+use Rattle.std.proofs.Common.{◌≡◌, ◌≢◌, ℕ, ◌<◌, ◌≤◌, zero, suc, Bool, true, false, eqb, ◌||◌, ◌&&◌, List, [], ◌∷◌, ◌++◌, length, set, take, drop, get_or, append-nil, Option, Some, None, Result, Ok, Err, refl, sym, ◌∙◌, ap, subst, inl, inr, arith}
+use Rattle.std.specs.Prelude.{OnErr}
 use Rattle.std.proofs.Math.Seq.{take-length, drop-length, map-set_same}
 use Rattle.std.proofs.lemmas.Bool.{cases_eq, eq-eqb, le-ltb, ne_eqb}
 use Rattle.carol_holding.specs.Held.{IsFirstMissing, has_at, has_entry}
@@ -103,3 +104,8 @@ held_by-refilled n before after e same is = ap (λ (rows : List HeldRow). held_b
 
 pub HaveRoom-refilled : (n : ℕ) (before after : List HeldRow) → n ≡ length before → length after ≡ length before → (m : ℕ) → HaveRoom m after → HaveRoom m (take n (after ++ drop (length after) before))
 HaveRoom-refilled n before after e same m h = subst (λ (rows : List HeldRow). HaveRoom m rows) (sym (refilled n before after e same)) h
+
+-- a fact of every error
+pub on_err : {X E P : Type 0} (r : Result X E) → P → OnErr r P
+on_err (Ok x) h = tt
+on_err (Err e) h = h

@@ -65,13 +65,14 @@ impl Holding {
         self.rows[from as usize].first_beyond(&self.rows[to as usize])
     }
 
-    /// Takes memory for this many entries more. Where there is none nothing changes.
+    /// Takes memory for this many entries more. Where there is none nothing changes; while it was
+    /// taken before there is some.
     pub fn reserve(&mut self, entries: u32) -> Result<(), AllocError>
         requires { entries ≤ MOST_ENTRIES }
         ensures ok { OnOk result (entries ≤ self.new.spare) }
         ensures replicas { self.new.replicas ≡ self.old.replicas }
         ensures grows { self.old.spare ≤ self.new.spare }
-        ensures err { OnErr result (self.new ≡ self.old) }
+        ensures err { OnErr result ((self.old.spare < entries) × (self.new ≡ self.old)) }
     {
         reserve_all(&mut self.rows, entries)?;
         self.spare = self.spare.max(entries);
@@ -95,6 +96,7 @@ fn reserve_all(rows: &mut Vec<Row>, entries: u32) -> Result<(), AllocError>
     ensures held { held_by rows.new.items ≡ held_by rows.old.items }
     ensures room { (n : ℕ) → HaveRoom n rows.old.items → HaveRoom n rows.new.items }
     ensures ok { OnOk result (HaveRoom entries rows.new.items) }
+    ensures err { (n : ℕ) → HaveRoom n rows.old.items → OnErr result (n < entries) }
 {
     for row in rows.iter_mut() {
         row.reserve(entries)?;

@@ -1,4 +1,4 @@
-ghost use Rattle.std.specs.Prelude.{◌≡◌, ℕ, ◌+◌, ◌<◌, ◌≤◌, ◌==◌, ◌||◌, false, not, length, OnOk};
+ghost use Rattle.std.specs.Prelude.{◌≡◌, ℕ, ◌+◌, ◌<◌, ◌≤◌, ◌==◌, ◌||◌, false, not, length, OnOk, OnErr};
 ghost use Rattle.std.specs.List.{find, insert};
 ghost use Rattle.std.specs.VecDeque.{deque_len, deque_capacity};
 ghost use Rattle.carol_holding.specs.Held.{has_entry};
@@ -82,6 +82,7 @@ impl Row {
         ensures held { self.new.held ≡ self.old.held }
         ensures room { self.old.room ≤ self.new.room }
         ensures ok { OnOk result (entries ≤ self.new.room) }
+        ensures err { OnErr result (self.old.room < entries) }
     {
         self.above.reserve(entries as usize)
     }

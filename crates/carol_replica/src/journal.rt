@@ -38,13 +38,14 @@ impl Journal {
         }
     }
 
-    /// Takes memory for this many entries more. Where there is none nothing changes.
+    /// Takes memory for this many entries more. Where there is none nothing changes; while it was
+    /// taken before there is some.
     pub fn reserve(&mut self, entries: u32) -> Result<(), AllocError>
         requires { entries ≤ MOST_ENTRIES }
         ensures ok { OnOk result (entries ≤ self.new.spare) }
         ensures entries { self.new.entries ≡ self.old.entries }
         ensures grows { self.old.spare ≤ self.new.spare }
-        ensures err { OnErr result (self.new ≡ self.old) }
+        ensures err { OnErr result ((self.old.spare < entries) × (self.new ≡ self.old)) }
     {
         self.effects.reserve(entries as usize)
     }
