@@ -71,12 +71,15 @@ with_outcome told m = record m {
   results = m.results ++ told ∷ [];
 }
 
--- the session with its command refused, which ends the command where it has no try left
+-- the session at the start of its command's next attempt
+abbrev pub with_retry : SessionState → SessionState
+with_retry m = record m {
+  at = record { command = m.at.command; refusals = m.at.refusals + 1 };
+  walk = record { stores = []; done = 0 };
+  live = no_grants;
+}
+
+-- the session with its attempt refused, which ends the command where it has no try left
 abbrev pub with_refusal : Cause → SessionState → SessionState
 with_refusal cause m =
-    if m.at.refusals + 1 == m.tries then with_outcome (outcome.Refused cause) m
-    else record m {
-      at = record { command = m.at.command; refusals = m.at.refusals + 1 };
-      walk = record { stores = []; done = 0 };
-      live = no_grants;
-    }
+    if m.at.refusals + 1 == m.tries then with_outcome (outcome.Refused cause) m else with_retry m

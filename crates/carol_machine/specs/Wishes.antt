@@ -1,8 +1,7 @@
 -- What a session goes on with, in the words of its acts.
-use Rattle.std.specs.Prelude.{◌≡◌, ◌↔◌, ℕ, ◌<◌, Bool, true, false, if◌then◌else◌, List, length, get_or, Some, None, slice_get}
+use Rattle.std.specs.Prelude.{◌≡◌, ◌↔◌, ℕ, ◌<◌, Bool, true, false, if◌then◌else◌, List, length, get_or, Option, Some, None, slice_get}
 use Rattle.carol_store.specs.declared.shape.CellKind.{CellKind}
 use Rattle.carol_store.specs.Effects.{Ascends, IsEffect}
-use Rattle.carol_store.specs.Stores.{IsStore}
 use Rattle.carol_program.specs.Rules.{Rules, OpRules}
 use Rattle.carol_program.specs.Variables.{number_of_args}
 use Rattle.carol_program.specs.declared.scenes.Command.{Command}
@@ -10,7 +9,8 @@ use Rattle.carol_program.specs.declared.scenes.SessionPlan.{SessionPlan}
 use Rattle.carol_reading.specs.declared.action.Action.TheVariants as action
 use Rattle.carol_reading.specs.declared.action.Action.{Action}
 use Rattle.carol_reading.specs.Good.{MayLeave}
-use Rattle.carol_reading.specs.Marks.{Mark, Asked, Issued, Released, Returned}
+use Rattle.carol_reading.specs.Marks.{Mark}
+use Rattle.carol_reading.specs.Nexts.{Suits}
 use Rattle.carol_reading.specs.Readings.{Reads}
 use Rattle.carol_reading.specs.Walks.{IsWalkOf}
 use Rattle.carol_history.specs.Acts.{Act, attempt, has_grant, marks, place}
@@ -51,14 +51,18 @@ abbrev pub IsInOrder : Wish → Type 0
 IsInOrder (wish.Issue effect) = Ascends effect
 IsInOrder w = Unit {0}
 
+-- what the operation does where the wish comes true
+abbrev pub action_of : Wish → Option Action
+action_of (wish.Guard guard) = Some (action.Query guard)
+action_of (wish.Query guard) = Some (action.Query guard)
+action_of (wish.Issue effect) = Some (action.Issue effect)
+action_of wish.Release = Some action.Release
+action_of (wish.Return value) = Some (action.Return value)
+action_of wish.Finished = None
+
 -- the mark is one that the wish leads to: any store may answer a query
 abbrev pub SuitsWish : List CellKind → Wish → Mark → Type 0
-SuitsWish kinds (wish.Guard guard) (Asked g store) = (g ≡ guard) × IsStore kinds store
-SuitsWish kinds (wish.Query guard) (Asked g store) = (g ≡ guard) × IsStore kinds store
-SuitsWish kinds (wish.Issue effect) (Issued e) = e ≡ effect
-SuitsWish kinds wish.Release Released = Unit {0}
-SuitsWish kinds (wish.Return value) (Returned v) = v ≡ value
-SuitsWish kinds w mark = ⊥
+SuitsWish kinds w mark = Suits kinds (action_of w) mark
 
 -- a guard is one that there is, and its grant is live just where the store is wished for; an effect
 -- is one of the shape

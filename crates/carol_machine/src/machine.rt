@@ -1,11 +1,11 @@
 ghost use Rattle.std.specs.Prelude.{◌≡◌, ◌+◌, ◌<◌, ◌≤◌, ℕ, false, List, [], ◌∷◌, length, get_or, IfOk};
 ghost use Rattle.std.specs.List.{AllByRecursion};
-ghost use Rattle.carol_program.specs.Limits.{most_commands, most_guards, most_tries};
+ghost use Rattle.carol_program.specs.Limits.{most_commands, most_guards, most_queries, most_statements, most_tries};
 ghost use Rattle.carol_program.specs.Rules.{rules_in};
 ghost use Rattle.carol_program.specs.Scenes.{IsPlanOf};
 ghost use Rattle.carol_history.specs.declared.outcome.Outcome.TheVariants as outcome;
 ghost use Rattle.carol_history.specs.Acts.{Act};
-ghost use Rattle.carol_machine.specs.Feeds.{IsActOf, MayBeFed, with_close, with_grant, with_outcome, with_refusal};
+ghost use Rattle.carol_machine.specs.Feeds.{IsActOf, MayBeFed, with_close, with_grant, with_outcome, with_refusal, with_store};
 ghost use Rattle.carol_machine.specs.States.{IsAt, present_in, state_of};
 ghost use Rattle.carol_machine.specs.Wishes.{IsInOrder, IsWishOf, ReadsSoFar, StandsWell, wish_of, wish_to_query};
 
@@ -15,6 +15,7 @@ use carol_event::Cause;
 use carol_history::Outcome;
 use carol_program::{ArgList, Command, CommandList, SessionPlan};
 use carol_reading::{Accepted, Action, Walk, next_action};
+use carol_store::Store;
 use std::alloc::{AllocError, Global};
 use std::marker::Model;
 
@@ -147,7 +148,7 @@ impl Machine {
         let _program = accepted.program();
         match fed {
             Fed::Granted(guard) => self.grant(*guard),
-            Fed::Queried(store) => self.walk.take(store),
+            Fed::Queried(store) => self.query(store),
             Fed::Issued => self.close(),
             Fed::Released => self.close(),
             Fed::Returned(value) => self.finish(Outcome::Value(*value)),
@@ -158,14 +159,24 @@ impl Machine {
     // The guard's grant is live.
     fn grant(&mut self, guard: u32)
         requires { guard < most_guards }
-        ensures { self.new ≡ with_grant guard self.old }
+        ensures there { guard < length self.old.live }
+        ensures is { self.new ≡ with_grant guard self.old }
     {
         self.live[guard as usize] = true;
     }
 
+    // A query got its store.
+    fn query(&mut self, store: &Store)
+        requires few { length self.old.walk.stores < most_queries }
+        requires done { self.old.walk.done < most_statements }
+        ensures { self.new ≡ with_store store.now self.old }
+    {
+        self.walk.take(store);
+    }
+
     // An issue or a release is done, which ends all grants.
     fn close(&mut self)
-        requires { self.old.walk.done + 1 < u32.MAX }
+        requires { self.old.walk.done < most_statements }
         ensures { self.new ≡ with_close self.old }
     {
         self.walk.pass();
