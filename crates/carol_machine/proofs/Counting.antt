@@ -1,6 +1,6 @@
 -- How many marks a body may leave: no more queries than it has, and no more marks than statements.
 use Rattle.std.proofs.Common.{◌≡◌, ℕ, ◌+◌, ◌≤◌, ◌<◌, Bool, true, false, List, [], ◌∷◌, ◌++◌, length, length-append, refl, ap, arith}
-use Rattle.std.specs.Prelude.{ℤ, MatchBool, Some, slice_get}
+use Rattle.std.specs.Prelude.{ℤ, MatchBool}
 use Rattle.carol_store.specs.declared.shape.CellKind.{CellKind}
 use Rattle.carol_store.specs.Kinds.{CellValue}
 use Rattle.carol_formula.specs.Claim.{Claim, truth}

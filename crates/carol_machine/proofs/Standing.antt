@@ -13,7 +13,7 @@ use Rattle.carol_history.specs.declared.outcome.Outcome.TheVariants as outcome
 use Rattle.carol_history.specs.Acts.{Act, Granted, Did, Refused, Place, attempt, has_grant, marks, place}
 use Rattle.carol_history.specs.Results.{outcomes}
 use Rattle.carol_machine.specs.declared.fed.Fed.TheVariants as fed
-use Rattle.carol_machine.specs.Feeds.{IsActOf, with_close, with_grant, with_outcome, with_refusal, with_retry, with_store}
+use Rattle.carol_machine.specs.Feeds.{IsActOf, with_attempt, with_close, with_grant, with_outcome, with_refusal, with_store}
 use Rattle.carol_machine.specs.States.{SessionState, IsAt, state_of}
 use Rattle.carol_machine.proofs.Counting.{queried-append}
 
@@ -111,7 +111,7 @@ returned m value (Granted g) done e at = absurd e
 returned m value (Refused cause) done e at = absurd e
 
 -- a refusal, by whether it is the last that the command may have
-refused_by : (b : Bool) (m : SessionState) (cause : Cause) (done : List Act) → IsAt m done → eqb (m.at.refusals + 1) m.tries ≡ b → IsAt (if b then with_outcome (outcome.Refused cause) m else with_retry m) (Refused cause ∷ done)
+refused_by : (b : Bool) (m : SessionState) (cause : Cause) (done : List Act) → IsAt m done → eqb (m.at.refusals + 1) m.tries ≡ b → IsAt (if b then with_outcome (outcome.Refused cause) m else with_attempt (m.at.refusals + 1) m) (Refused cause ∷ done)
 refused_by true m cause done at last =
     let last_there : eqb ((place m.tries done).refusals + 1) m.tries ≡ true = subst (λ (at : Place). eqb (at.refusals + 1) m.tries ≡ true) at.place last
     in record {

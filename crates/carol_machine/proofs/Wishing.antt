@@ -1,5 +1,5 @@
 -- What an operation does next is what its session wishes for.
-use Rattle.std.proofs.Common.{◌≡◌, ℕ, zero, suc, ◌<◌, Bool, true, false, List, [], ◌∷◌, ◌++◌, length, get_or, refl, sym, ◌∙◌, ap, subst}
+use Rattle.std.proofs.Common.{◌≡◌, ℕ, zero, suc, ◌<◌, Bool, true, false, List, [], ◌∷◌, ◌++◌, length, get_or, refl, sym, subst}
 use Rattle.std.specs.Prelude.{◌↔◌, ℤ, Option, Some, None, slice_get, if◌then◌else◌}
 use Rattle.carol_store.specs.declared.shape.CellKind.{CellKind}
 use Rattle.carol_store.specs.declared.effect.Atom.{Atom}
@@ -7,7 +7,7 @@ use Rattle.carol_store.specs.Effects.{AreAtomsOf}
 use Rattle.carol_store.specs.Kinds.{CellValue}
 use Rattle.carol_formula.specs.Claim.{truth}
 use Rattle.carol_program.specs.Bodies.{Body, Query, Issue, Release, Branch, Return}
-use Rattle.carol_program.specs.Rules.{Rules, OpRules}
+use Rattle.carol_program.specs.Rules.{Rules}
 use Rattle.carol_program.specs.Variables.{number_of_args}
 use Rattle.carol_program.specs.WellFormed.{AreRules, IsFitBody, IsOpOver, Setting, setting_of}
 use Rattle.carol_program.specs.declared.scenes.Command.{Command}
@@ -20,12 +20,12 @@ use Rattle.carol_reading.specs.Nexts.{next_of, IsNextOf, Suits}
 use Rattle.carol_reading.specs.Readings.{with_query}
 use Rattle.carol_reading.specs.Walks.{BringsTo, IsWalkOf}
 use Rattle.carol_reading.proofs.Following.{following}
-use Rattle.carol_history.specs.Acts.{Act, Granted, Did, Refused, attempt, has_grant, marks, place}
+use Rattle.carol_history.specs.Acts.{Act, Granted, Did, Refused, attempt, has_grant, marks}
 use Rattle.carol_history.proofs.Actors.{at_place}
 use Rattle.carol_machine.specs.declared.wish.Wish.{Wish}
 use Rattle.carol_machine.specs.declared.wish.Wish.TheVariants as wish
 use Rattle.carol_machine.specs.States.{SessionState, IsAt}
-use Rattle.carol_machine.specs.Wishes.{IsFit, IsInOrder, IsNextWish, IsUnder, IsWishOf, ReadsSoFar, SuitsWish, action_of, wish_of, wish_to_query}
+use Rattle.carol_machine.specs.Wishes.{IsFit, IsInOrder, IsNextWish, IsUnder, IsWishOf, ReadsSoFar, action_of, wish_of, wish_to_query}
 
 -- ---- an attempt's marks have no return
 

@@ -1,19 +1,19 @@
 -- What a machine is fed, and what it stands at then.
-use Rattle.std.specs.Prelude.{◌≡◌, ℕ, ◌+◌, ◌<◌, ◌==◌, false, true, if◌then◌else◌, List, [], ◌∷◌, ◌++◌, length, Some, slice_get, slice_set}
+use Rattle.std.specs.Prelude.{◌≡◌, ℕ, ◌+◌, ◌<◌, ◌==◌, true, if◌then◌else◌, List, [], ◌∷◌, ◌++◌, length, Some, slice_get, slice_set}
 use Rattle.carol_store.specs.declared.effect.Atom.{Atom}
 use Rattle.carol_store.specs.Kinds.{CellValue}
 use Rattle.carol_program.specs.Rules.{Rules, OpRules}
 use Rattle.carol_program.specs.declared.scenes.Command.{Command}
 use Rattle.carol_reading.specs.Good.{MayLeave}
 use Rattle.carol_reading.specs.Marks.{Mark, Asked, Issued, Released, Returned}
-use Rattle.carol_reading.specs.Walks.{Progress, BringsTo}
+use Rattle.carol_reading.specs.Walks.{BringsTo}
 use Rattle.carol_event.specs.declared.event.Cause.{Cause}
 use Rattle.carol_history.specs.declared.outcome.Outcome.{Outcome}
 use Rattle.carol_history.specs.declared.outcome.Outcome.TheVariants as outcome
-use Rattle.carol_history.specs.Acts.{Act, Granted, Did, Refused, after_refusal}
+use Rattle.carol_history.specs.Acts.{Act, Granted, Did, Refused}
 use Rattle.carol_machine.specs.declared.fed.Fed.{Fed}
 use Rattle.carol_machine.specs.declared.fed.Fed.TheVariants as fed
-use Rattle.carol_machine.specs.States.{SessionState, HasCommand, IsAt, no_grants}
+use Rattle.carol_machine.specs.States.{SessionState, HasCommand, no_grants}
 
 -- the act that it is
 abbrev pub IsActOf : Fed → Act → Type 0
@@ -62,6 +62,14 @@ with_close m = record m {
   live = no_grants;
 }
 
+-- the session at the start of an attempt, after so many refusals of its command
+abbrev pub with_attempt : ℕ → SessionState → SessionState
+with_attempt refusals m = record m {
+  at = record { command = m.at.command; refusals = refusals };
+  walk = record { stores = []; done = 0 };
+  live = no_grants;
+}
+
 -- the session with its command done
 abbrev pub with_outcome : Outcome → SessionState → SessionState
 with_outcome told m = record m {
@@ -71,15 +79,8 @@ with_outcome told m = record m {
   results = m.results ++ told ∷ [];
 }
 
--- the session at the start of its command's next attempt
-abbrev pub with_retry : SessionState → SessionState
-with_retry m = record m {
-  at = record { command = m.at.command; refusals = m.at.refusals + 1 };
-  walk = record { stores = []; done = 0 };
-  live = no_grants;
-}
-
 -- the session with its attempt refused, which ends the command where it has no try left
 abbrev pub with_refusal : Cause → SessionState → SessionState
 with_refusal cause m =
-    if m.at.refusals + 1 == m.tries then with_outcome (outcome.Refused cause) m else with_retry m
+    if m.at.refusals + 1 == m.tries then with_outcome (outcome.Refused cause) m
+    else with_attempt (m.at.refusals + 1) m

@@ -3,6 +3,7 @@
 
 mod fed;
 mod machine;
+mod plan;
 mod wish;
 
 pub use fed::Fed;

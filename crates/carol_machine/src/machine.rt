@@ -5,15 +5,16 @@ ghost use Rattle.carol_program.specs.Rules.{rules_in};
 ghost use Rattle.carol_program.specs.Scenes.{IsPlanOf};
 ghost use Rattle.carol_history.specs.declared.outcome.Outcome.TheVariants as outcome;
 ghost use Rattle.carol_history.specs.Acts.{Act};
-ghost use Rattle.carol_machine.specs.Feeds.{IsActOf, MayBeFed, with_close, with_grant, with_outcome, with_refusal, with_store};
+ghost use Rattle.carol_machine.specs.Feeds.{IsActOf, MayBeFed, with_attempt, with_close, with_grant, with_outcome, with_refusal, with_store};
 ghost use Rattle.carol_machine.specs.States.{IsAt, present_in, state_of};
 ghost use Rattle.carol_machine.specs.Wishes.{IsInOrder, IsWishOf, ReadsSoFar, StandsWell, wish_of, wish_to_query};
 
 use crate::fed::Fed;
+use crate::plan::copy_plan;
 use crate::wish::Wish;
 use carol_event::Cause;
 use carol_history::Outcome;
-use carol_program::{ArgList, Command, CommandList, SessionPlan};
+use carol_program::SessionPlan;
 use carol_reading::{Accepted, Action, Walk, next_action};
 use carol_store::Store;
 use std::alloc::{AllocError, Global};
@@ -68,7 +69,7 @@ impl Machine {
         plan: &SessionPlan,
         tries: u32,
     ) -> Result<Machine, AllocError>
-        requires plan { IsPlanOf (rules_in accepted.now.program) (plan.now.replica + 1) plan.now }
+        requires plan { (replicas : ℕ) × IsPlanOf (rules_in accepted.now.program) replicas plan.now }
         requires few { length plan.now.commands ≤ most_commands }
         requires some_try { 1 ≤ tries }
         requires few_tries { tries ≤ most_tries }
@@ -77,7 +78,7 @@ impl Machine {
     {
         let results = Vec::with_capacity(alloc, plan.commands.len())?;
         Ok(Machine {
-            plan: copied(alloc, plan)?,
+            plan: copy_plan(alloc, plan)?,
             tries,
             command: 0,
             refusals: 0,
@@ -113,6 +114,7 @@ impl Machine {
         match next {
             Action::Query { guard } => self.wish_to_query(guard),
             Action::Issue(effect) => {
+                // An effect's cells ascend, as reading it shows.
                 let _atoms = effect.atoms();
                 Wish::Issue(effect)
             }
@@ -125,11 +127,7 @@ impl Machine {
     fn wish_to_query(&self, guard: u32) -> Wish
         ensures { result ≡ wish_to_query (get_or self.now.live guard false) guard }
     {
-        let live = match self.live.get(guard as usize) {
-            Some(live) => *live,
-            None => false,
-        };
-        if live {
+        if self.live.get(guard as usize).copied().unwrap_or(false) {
             Wish::Query(guard)
         } else {
             Wish::Guard(guard)
@@ -190,9 +188,7 @@ impl Machine {
     {
         self.results.push_reserved(outcome);
         self.command += 1;
-        self.refusals = 0;
-        self.walk.clear();
-        self.live = [false; MOST_GUARDS];
+        self.restart(0);
     }
 
     // The attempt ends without a value, and with it the command where it has no try left.
@@ -204,7 +200,15 @@ impl Machine {
             self.finish(Outcome::Refused(cause));
             return;
         }
-        self.refusals += 1;
+        self.restart(self.refusals + 1);
+    }
+
+    // An attempt begins, after so many refusals of the command under way.
+    fn restart(&mut self, refusals: u32)
+        requires { refusals < self.old.tries }
+        ensures { self.new ≡ with_attempt refusals self.old }
+    {
+        self.refusals = refusals;
         self.walk.clear();
         self.live = [false; MOST_GUARDS];
     }
@@ -237,29 +241,4 @@ impl Machine {
     {
         &self.walk
     }
-}
-
-// An equal command.
-fn copied_command(alloc: Global, command: &Command) -> Result<Command, AllocError>
-    ensures { IfOk result (λ c. c ≡ command.now) }
-{
-    let args = ArgList::from_slice(alloc, command.args.as_slice())?;
-    Ok(Command {
-        op: command.op,
-        args,
-    })
-}
-
-// An equal plan.
-fn copied(alloc: Global, plan: &SessionPlan) -> Result<SessionPlan, AllocError>
-    ensures { IfOk result (λ p. p ≡ plan.now) }
-{
-    let mut commands = CommandList::new(alloc);
-    for command in plan.commands.as_slice() {
-        commands.push(copied_command(alloc, command)?)?;
-    }
-    Ok(SessionPlan {
-        replica: plan.replica,
-        commands,
-    })
 }

@@ -1,11 +1,9 @@
-use Rattle.std.proofs.Common.{◌≡◌, List, sym, subst}
+use Rattle.std.proofs.Common.{◌≡◌, sym, subst}
 use Rattle.std.specs.Prelude.{Some, slice_get}
 use Rattle.carol_program.specs.Rules.{rules_in}
 use Rattle.carol_reading.specs.Nexts.{IsNextOf}
-use Rattle.carol_reading.specs.Walks.{IsWalkOf}
-use Rattle.carol_history.specs.Acts.{Act}
-use Rattle.carol_machine.specs.States.{SessionState, IsAt}
-use Rattle.carol_machine.specs.Wishes.{IsInOrder, IsWishOf, ReadsSoFar, StandsWell, wish_of}
+use Rattle.carol_machine.specs.States.{SessionState}
+use Rattle.carol_machine.specs.Wishes.{IsInOrder, IsWishOf, StandsWell}
 use Rattle.carol_machine.proofs.Wishing.{is_wish}
 use Rattle.carol_machine.proofs.machine.Machine.action.Goals as goal
 

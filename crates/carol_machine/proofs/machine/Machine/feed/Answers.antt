@@ -1,4 +1,4 @@
-use Rattle.std.proofs.Common.{◌≡◌, sym, ◌∙◌, subst, refl, arith}
+use Rattle.std.proofs.Common.{subst, refl}
 use Rattle.carol_program.specs.Rules.{rules_in}
 use Rattle.carol_machine.specs.Feeds.{IsActOf, MayBeFed}
 use Rattle.carol_machine.specs.declared.fed.Fed.{Fed}
