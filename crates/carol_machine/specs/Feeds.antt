@@ -35,8 +35,8 @@ pub record MayFollow (p : Rules) (m : SessionState) (mark : Mark) : Type 0 where
   pub brings : BringsTo before m.walk
   pub leaves : MayLeave p op command.args before mark
 
--- it answers what the session goes on with: the guard is one that there is, the mark may follow, and
--- where there is a refusal a command is under way
+-- it answers what the session goes on with: the guard is one that there is, the mark may follow,
+-- and where there is a refusal a command is under way
 abbrev pub MayBeFed : Rules → SessionState → Fed → Type 0
 MayBeFed p m (fed.Granted guard) = guard < length p.guards
 MayBeFed p m (fed.Queried store) = (guard : ℕ) × MayFollow p m (Asked guard store)

@@ -1,13 +1,16 @@
-ghost use Rattle.std.specs.Prelude.{◌≡◌, ◌+◌, ◌<◌, ◌≤◌, ℕ, false, List, [], ◌∷◌, length, get_or, IfOk};
-ghost use Rattle.std.specs.List.{AllByRecursion};
-ghost use Rattle.carol_program.specs.Limits.{most_commands, most_guards, most_queries, most_statements, most_tries};
+ghost use Rattle.std.specs.Prelude.{◌≡◌, ◌+◌, ◌<◌, ◌≤◌, ℕ, false, List, [], ◌∷◌, length};
+ghost use Rattle.std.specs.Prelude.{get_or, IfOk};
+ghost use Rattle.carol_program.specs.Limits.{most_commands, most_guards, most_queries};
+ghost use Rattle.carol_program.specs.Limits.{most_statements, most_tries};
 ghost use Rattle.carol_program.specs.Rules.{rules_in};
 ghost use Rattle.carol_program.specs.Scenes.{IsPlanOf};
 ghost use Rattle.carol_history.specs.declared.outcome.Outcome.TheVariants as outcome;
 ghost use Rattle.carol_history.specs.Acts.{Act};
-ghost use Rattle.carol_machine.specs.Feeds.{IsActOf, MayBeFed, with_attempt, with_close, with_grant, with_outcome, with_refusal, with_store};
+ghost use Rattle.carol_machine.specs.Feeds.{IsActOf, MayBeFed, with_attempt, with_close};
+ghost use Rattle.carol_machine.specs.Feeds.{with_grant, with_outcome, with_refusal, with_store};
 ghost use Rattle.carol_machine.specs.States.{IsAt, present_in, state_of};
-ghost use Rattle.carol_machine.specs.Wishes.{IsInOrder, IsWishOf, ReadsSoFar, StandsWell, wish_of, wish_to_query};
+ghost use Rattle.carol_machine.specs.Wishes.{IsInOrder, IsWishOf, ReadsSoFar, StandsWell};
+ghost use Rattle.carol_machine.specs.Wishes.{wish_of, wish_to_query};
 
 use crate::fed::Fed;
 use crate::plan::copy_plan;
@@ -69,7 +72,8 @@ impl Machine {
         plan: &SessionPlan,
         tries: u32,
     ) -> Result<Machine, AllocError>
-        requires plan { (replicas : ℕ) × IsPlanOf (rules_in accepted.now.program) replicas plan.now }
+        requires plan { (replicas : ℕ)
+            × IsPlanOf (rules_in accepted.now.program) replicas plan.now }
         requires few { length plan.now.commands ≤ most_commands }
         requires some_try { 1 ≤ tries }
         requires few_tries { tries ≤ most_tries }
@@ -89,9 +93,9 @@ impl Machine {
     }
 
     /// What the session goes on with, where it stands where some acts bring it: a grant or a store
-    /// for its next query, by whether the guard's grant is live, an effect to issue, a release, or a
-    /// value to return. `Finished` exactly where all commands are done. Where a command is under way
-    /// the walk is one that its operation reads, with proper rounds.
+    /// for its next query, by whether the guard's grant is live, an effect to issue, a release, or
+    /// a value to return. `Finished` exactly where all commands are done. Where a command is under
+    /// way the walk is one that its operation reads, with proper rounds.
     pub fn action(&self, accepted: &Accepted) -> Wish
         requires { StandsWell (rules_in accepted.now.program) self.now }
         ensures { (done : List Act) → IsAt self.now done
@@ -134,8 +138,8 @@ impl Machine {
         }
     }
 
-    /// Takes what came of the session's wish: afterwards the session stands where the act brings it.
-    /// It takes no memory.
+    /// Takes what came of the session's wish. Afterwards the session stands where the act brings
+    /// it. It takes no memory.
     pub fn feed(&mut self, accepted: &Accepted, fed: &Fed)
         requires { MayBeFed (rules_in accepted.now.program) self.old fed.now }
         ensures plan { self.new.plan ≡ self.old.plan }
