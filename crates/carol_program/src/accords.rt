@@ -1,11 +1,13 @@
-ghost use Rattle.std.specs.Prelude.{◌≡◌, ◌<◌, ◌≤◌, ◌*◌, length, slice_get, Some};
+ghost use Rattle.std.specs.Prelude.{◌≡◌, ◌<◌, ◌≤◌, ◌*◌, length, slice_get, Some, IfOk};
 ghost use Rattle.carol_store.specs.Effects.{IsEffect};
 ghost use Rattle.carol_program.specs.Accords.{Accords, IsTable, ways, ways_of, place_of, entry_of, HasWay};
 ghost use Rattle.carol_program.specs.Admitting.{admits, admits_all, is_yes};
 
+use crate::copies::copied_list;
 use carol_formula::Valuation;
 use carol_store::{CellKind, Direction, Effect, Shape};
 use sqlite_items::Items;
+use std::alloc::{AllocError, Global};
 use std::marker::Model;
 
 /// Whether a unit step of a cell keeps a guard true; where not, two stores at which it makes it false.
@@ -57,6 +59,17 @@ impl AccordTable {
             guards,
             entries,
         }
+    }
+
+    /// An equal table.
+    pub fn copy(&self, alloc: Global) -> Result<AccordTable, AllocError>
+        ensures { IfOk result (λ same. same ≡ self.now) }
+    {
+        Ok(AccordTable {
+            shape: self.shape.copy(),
+            guards: self.guards,
+            entries: copied_list(alloc, &self.entries)?,
+        })
     }
 
     /// The entry of the guard for the cell's step, up or down. All are in range, and down only for a counter.

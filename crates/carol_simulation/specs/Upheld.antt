@@ -106,7 +106,8 @@ TableDecides = (p : Rules) (table : Accords) (guard : ℕ) (effect : List Atom) 
 
 -- the command's operation reads what the session's attempt left, which is no return, in rounds as
 -- they may be, of which the open one has the global store
-pub record HasReading (p : Rules) (command : Command) (session : ℕ) (past : List Event) : Type 0 where
+pub record HasReading
+    (p : Rules) (command : Command) (session : ℕ) (past : List Event) : Type 0 where
   pub op : OpRules
   pub found : slice_get p.ops command.op ≡ Some op
   pub ended : List (List CellValue)
