@@ -1,9 +1,10 @@
-ghost use Rattle.std.specs.Prelude.{◌≡◌, ◌<◌, ◌≤◌, ◌*◌, length, slice_get, Some};
+ghost use Rattle.std.specs.Prelude.{◌≡◌, ◌<◌, ◌≤◌, ◌*◌, length, slice_get, Some, IfOk};
 ghost use Rattle.carol_program.specs.Accords.{Accords, IsTable, ways, ways_of, place_of, entry_of, HasWay};
 
 use carol_formula::Valuation;
 use carol_store::{CellKind, Shape};
 use sqlite_items::Items;
+use std::alloc::{AllocError, Global};
 use std::marker::Model;
 
 /// Whether a unit step of a cell keeps a guard true; where not, two stores at which it makes it false.
@@ -34,6 +35,29 @@ impl Model for AccordTable {
     ghost invariant = { λ t. IsTable (record { kinds = t.shape; guards = t.guards; entries = t.entries }) };
 }
 
+impl Entry {
+    // An equal entry.
+    fn copy(&self) -> Result<Entry, AllocError>
+        ensures { IfOk result (λ entry. entry ≡ self.now) }
+    {
+        match self {
+            Entry::Yes => Ok(Entry::Yes),
+            Entry::No(stores) => Ok(Entry::No(stores.copy()?)),
+        }
+    }
+}
+
+// Equal entries, in their order.
+fn copied(alloc: Global, entries: &[Entry]) -> Result<EntryList, AllocError>
+    ensures { IfOk result (λ list. list ≡ entries.now) }
+{
+    let mut list = Items::new(alloc);
+    for entry in entries {
+        list.push(entry.copy()?)?;
+    }
+    Ok(list)
+}
+
 // How many ways a cell of this kind can go: a counter up and down, any other up.
 fn ways_of(kind: CellKind) -> usize
     ensures { result ≡ ways_of kind }
@@ -55,6 +79,17 @@ impl AccordTable {
             guards,
             entries,
         }
+    }
+
+    /// An equal table.
+    pub fn copy(&self, alloc: Global) -> Result<AccordTable, AllocError>
+        ensures { IfOk result (λ table. table ≡ self.now) }
+    {
+        Ok(AccordTable {
+            shape: self.shape.copy(),
+            guards: self.guards,
+            entries: copied(alloc, self.entries.as_slice())?,
+        })
     }
 
     /// The entry of the guard for the cell's step, up or down. All are in range, and down only for a counter.

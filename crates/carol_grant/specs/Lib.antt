@@ -1,0 +1,4 @@
+pub mod Counts
+pub mod Grants
+pub mod Kept
+pub mod Tallies
