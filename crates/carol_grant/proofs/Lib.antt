@@ -1,3 +1,5 @@
 pub mod Bare
 pub mod Counting
+pub mod Kept
 pub mod Lists
+pub mod Ways

@@ -1,9 +1,10 @@
-ghost use Rattle.std.specs.Prelude.{◌≡◌, ℕ, ◌<◌, ◌≤◌, false, length, IfOk};
+ghost use Rattle.std.specs.Prelude.{◌≡◌, ℕ, ◌<◌, ◌≤◌, false, length, slice_get, IfOk};
+ghost use Rattle.carol_grant.specs.Kept.{can_go};
 
 use crate::row::{MOST_GUARDS, MOST_SESSIONS, Row, bare_rows};
-use crate::tally::Tally;
-use carol_program::AccordTable;
-use carol_store::Shape;
+use crate::tally::{Lacking, Tally};
+use carol_program::{AccordTable, Entry};
+use carol_store::{CellKind, MOST_CELLS, Shape};
 use std::alloc::{AllocError, Global};
 use std::marker::Model;
 
@@ -30,7 +31,10 @@ impl Model for Grants {
 }
 
 impl Grants {
-    ghost use Rattle.carol_grant.specs.Grants.{is_granted};
+    ghost use Rattle.std.specs.Prelude.{Bool, slice_index_or};
+    ghost use Rattle.carol_grant.specs.Grants.{Closes, GrantsOne, is_granted};
+    ghost use Rattle.carol_grant.specs.Kept.{lacks_way};
+    ghost use Rattle.carol_grant.specs.Tallies.{IsLacking, lacking_at};
 
     /// No grants of this many guards, whose accords these are, to this many sessions. There are at
     /// most 64 sessions and 16 guards, and the table is one of the shape and the guards.
@@ -65,5 +69,87 @@ impl Grants {
         ensures { result ≡ is_granted self.now session guard }
     {
         self.rows[session as usize].live[guard as usize]
+    }
+
+    /// Grants the guard to the session. Both are in range; nothing changes where it is granted.
+    pub fn grant(&mut self, session: u32, guard: u32)
+        requires session { session < length self.old.live }
+        requires guard { guard < self.old.accords.guards }
+        ensures { GrantsOne self.old session guard self.new }
+    {
+        if self.live(session, guard) {
+            return;
+        }
+        let lacking = self.lacking(guard);
+        let at = session as usize;
+        let mut row = self.rows[at];
+        row.live[guard as usize] = true;
+        row.tally.add(&lacking);
+        self.rows[at] = row;
+        self.total.add(&lacking);
+    }
+
+    /// Ends all grants of the session, which is in range.
+    pub fn close(&mut self, session: u32)
+        requires { session < length self.old.live }
+        ensures { Closes self.old session self.new }
+    {
+        let at = session as usize;
+        let row = self.rows[at];
+        self.total.take_away(&row.tally);
+        self.rows[at] = Row::new();
+    }
+
+    // Which ways the guard's accord lacks.
+    fn lacking(&self, guard: u32) -> Lacking
+        requires { guard < self.now.accords.guards }
+        ensures size { IsLacking result }
+        ensures ways { (cell : ℕ) (up : Bool)
+            → lacking_at result cell up ≡ lacks_way self.now.accords cell up guard }
+    {
+        Lacking {
+            up: self.lacking_in(guard, true),
+            down: self.lacking_in(guard, false),
+        }
+    }
+
+    // For each cell, whether the guard's accord lacks its way up, or down.
+    fn lacking_in(&self, guard: u32, up: bool) -> [bool; MOST_CELLS]
+        requires { guard < self.now.accords.guards }
+        ensures size { length result ≡ MOST_CELLS }
+        ensures cells { (cell : ℕ)
+            → slice_index_or result cell false ≡ lacks_way self.now.accords cell up guard }
+    {
+        let mut lacking = [false; MOST_CELLS];
+        let cells = self.shape.kinds().len();
+        for cell in 0..cells {
+            lacking[cell] = self.lacks(guard, cell as u32, up);
+        }
+        lacking
+    }
+
+    // Whether the shape has the way, and the guard's accord lacks it.
+    fn lacks(&self, guard: u32, cell: u32, up: bool) -> bool
+        requires { guard < self.now.accords.guards }
+        ensures { result ≡ lacks_way self.now.accords cell up guard }
+    {
+        if !can_go(self.shape.kinds(), cell, up) {
+            return false;
+        }
+        match self.accords.entry(guard, cell, up) {
+            Entry::Yes => false,
+            Entry::No(_) => true,
+        }
+    }
+}
+
+// Whether the cell is there, and can go up, or down.
+fn can_go(kinds: &[CellKind], cell: u32, up: bool) -> bool
+    ensures { result ≡ can_go (slice_get kinds.now cell) up }
+{
+    match kinds.get(cell as usize).copied() {
+        None => false,
+        Some(CellKind::Counter) => true,
+        Some(CellKind::Peak | CellKind::Flag) => up,
     }
 }

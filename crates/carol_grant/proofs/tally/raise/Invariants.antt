@@ -1,4 +1,4 @@
-use Rattle.std.proofs.Common.{◌≡◌, ℕ, ◌+◌, ◌<◌, ◌≤◌, false, length, get_or}
+use Rattle.std.proofs.Common.{◌≡◌, ℕ, ◌+◌, ◌<◌, ◌≤◌, false, get_or}
 use Rattle.std.specs.Prelude.{if◌then◌else◌}
 use Rattle.carol_grant.proofs.tally.raise.Given as goal
 
