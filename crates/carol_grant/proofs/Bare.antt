@@ -4,6 +4,7 @@ use Rattle.std.specs.List.{AllByRecursion}
 use Rattle.std.proofs.lemmas.Bool.{false≢true}
 use Rattle.std.proofs.lemmas.List.{length-replicate}
 use Rattle.carol_store.specs.declared.shape.CellKind.{CellKind}
+use Rattle.carol_store.specs.declared.short_list.TheConstants.{MOST_CELLS}
 use Rattle.carol_program.specs.Accords.{Accords}
 use Rattle.carol_grant.specs.declared.row.Row.{Row}
 use Rattle.carol_grant.specs.declared.row.TheConstants.{MOST_GUARDS, MOST_SESSIONS}
@@ -44,9 +45,10 @@ is_granted-bare [] session guard bare = refl
 is_granted-bare (row ∷ rows) zero guard bare = bare_live row guard bare.0
 is_granted-bare (row ∷ rows) (suc session) guard bare = is_granted-bare rows session guard bare.1
 
-pub IsKept-bare : (kinds : List CellKind) (accords : Accords) (guards : ℕ) (rows : List Row) (total : Tally) → accords.kinds ≡ kinds → accords.guards ≡ guards → guards ≤ MOST_GUARDS → length rows ≤ MOST_SESSIONS → AllByRecursion IsBare rows → IsTally total → ((cell : ℕ) (up : Bool) → tally_at total cell up ≡ 0) → IsKept kinds accords guards rows total
-IsKept-bare kinds accords guards rows total shape table few_guards few_sessions bare tally none = record {
+pub IsKept-bare : (kinds : List CellKind) (accords : Accords) (guards : ℕ) (rows : List Row) (total : Tally) → accords.kinds ≡ kinds → length kinds ≤ MOST_CELLS → accords.guards ≡ guards → guards ≤ MOST_GUARDS → length rows ≤ MOST_SESSIONS → AllByRecursion IsBare rows → IsTally total → ((cell : ℕ) (up : Bool) → tally_at total cell up ≡ 0) → IsKept kinds accords guards rows total
+IsKept-bare kinds accords guards rows total shape few_cells table few_guards few_sessions bare tally none = record {
   shape = shape;
+  few_cells = few_cells;
   table = table;
   few_guards = few_guards;
   few_sessions = few_sessions;

@@ -90,6 +90,7 @@ IsKept-grant kinds accords guards rows total session guard row tally sum kept at
     in let is : IsRow accords row = AllByRecursion-at (IsRow accords) rows session row kept.each at
     in record {
       shape = kept.shape;
+      few_cells = kept.few_cells;
       table = kept.table;
       few_guards = kept.few_guards;
       few_sessions = rw (length-set rows session now) kept.few_sessions;
@@ -128,6 +129,7 @@ IsKept-close kinds accords guards rows total session row bare sum kept at none s
     let is : IsRow accords row = AllByRecursion-at (IsRow accords) rows session row kept.each at
     in record {
       shape = kept.shape;
+      few_cells = kept.few_cells;
       table = kept.table;
       few_guards = kept.few_guards;
       few_sessions = rw (length-set rows session bare) kept.few_sessions;

@@ -1,4 +1,5 @@
 pub mod Bare
+pub mod Bars
 pub mod Counting
 pub mod Kept
 pub mod Lists

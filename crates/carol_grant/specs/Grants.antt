@@ -40,17 +40,21 @@ bars h cell up = count_rows (lacks h.accords cell up) h.live
 abbrev pub IsBefore : ℕ → ℕ → ℕ → ℕ → Type 0
 IsBefore s g session guard = (s < session) ⊎ ((s ≡ session) × (g < guard))
 
--- the lowest live grant of another session whose accord lacks the effect
+-- the lowest live grant of another session whose guard does not pass the test
 pub record IsLowestBar
-    (h : Grants) (session : ℕ) (effect : List Atom) (holder guard : ℕ) : Type 0 where
+    (h : Grants) (session : ℕ) (passes : ℕ → Bool) (holder guard : ℕ) : Type 0 where
   pub other : holder ≢ session
   pub live : is_granted h holder guard ≡ true
-  pub barring : admits h.accords guard effect ≡ false
+  pub barring : passes guard ≡ false
   pub lowest : (s g : ℕ) → s ≢ session → is_granted h s g ≡ true → IsBefore s g holder guard →
-      admits h.accords g effect ≡ true
+      passes g ≡ true
 
--- the lowest bar for the session's effect; none where each grant of another session admits it
+-- the lowest bar for the session; none where each guard that others have live passes the test
+abbrev pub IsLowest : Grants → ℕ → (ℕ → Bool) → Option (ℕ × ℕ) → Type 0
+IsLowest h session passes None =
+    (s g : ℕ) → s ≢ session → is_granted h s g ≡ true → passes g ≡ true
+IsLowest h session passes (Some bar) = IsLowestBar h session passes bar.0 bar.1
+
+-- the lowest live grant of another session whose accord lacks the effect, if there is one
 abbrev pub IsBarredBy : Grants → ℕ → List Atom → Option (ℕ × ℕ) → Type 0
-IsBarredBy h session effect None =
-    (s g : ℕ) → s ≢ session → is_granted h s g ≡ true → admits h.accords g effect ≡ true
-IsBarredBy h session effect (Some bar) = IsLowestBar h session effect bar.0 bar.1
+IsBarredBy h session effect bar = IsLowest h session (λ guard. admits h.accords guard effect) bar

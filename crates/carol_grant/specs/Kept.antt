@@ -3,6 +3,7 @@ use Rattle.std.specs.Prelude.{◌≡◌, ℕ, ◌<◌, ◌≤◌, Bool, true, fa
 use Rattle.std.specs.List.{AllByRecursion}
 use Rattle.carol_store.specs.declared.shape.CellKind.{CellKind}
 use Rattle.carol_store.specs.declared.shape.CellKind.TheVariants.{Counter, Peak, Flag}
+use Rattle.carol_store.specs.declared.short_list.TheConstants.{MOST_CELLS}
 use Rattle.carol_program.specs.Accords.{Accords}
 use Rattle.carol_grant.specs.declared.tally.Tally.{Tally}
 use Rattle.carol_grant.specs.declared.row.Row.{Row}
@@ -46,6 +47,7 @@ pub record IsKept
     (kinds : List CellKind) (accords : Accords) (guards : ℕ) (rows : List Row) (total : Tally)
     : Type 0 where
   pub shape : accords.kinds ≡ kinds
+  pub few_cells : length kinds ≤ MOST_CELLS
   pub table : accords.guards ≡ guards
   pub few_guards : guards ≤ MOST_GUARDS
   pub few_sessions : length rows ≤ MOST_SESSIONS

@@ -4,7 +4,7 @@ ghost use Rattle.carol_grant.specs.Kept.{can_go};
 use crate::row::{MOST_GUARDS, MOST_SESSIONS, Row, bare_rows};
 use crate::tally::{Lacking, Tally};
 use carol_program::{AccordTable, Entry};
-use carol_store::{CellKind, MOST_CELLS, Shape};
+use carol_store::{CellKind, Direction, Effect, MOST_CELLS, Shape};
 use std::alloc::{AllocError, Global};
 use std::marker::Model;
 
@@ -31,8 +31,12 @@ impl Model for Grants {
 }
 
 impl Grants {
-    ghost use Rattle.std.specs.Prelude.{Bool, slice_index_or};
-    ghost use Rattle.carol_grant.specs.Grants.{Closes, GrantsOne, is_granted};
+    ghost use Rattle.std.specs.Prelude.{Bool, true, slice_index_or};
+    ghost use Rattle.carol_program.specs.Accords.{HasWay};
+    ghost use Rattle.carol_program.specs.Admitting.{admits_all};
+    ghost use Rattle.carol_store.specs.Effects.{IsEffect};
+    ghost use Rattle.carol_grant.specs.Bars.{AreWays, IsFirst, is_bar};
+    ghost use Rattle.carol_grant.specs.Grants.{Closes, GrantsOne, IsBarredBy, IsLowest, bars, is_granted};
     ghost use Rattle.carol_grant.specs.Kept.{lacks_way};
     ghost use Rattle.carol_grant.specs.Tallies.{IsLacking, lacking_at};
 
@@ -53,6 +57,7 @@ impl Grants {
         ensures none { IfOk result (λ h. (s g : ℕ) → is_granted h s g ≡ false) }
         ensures count { IfOk result (λ h. length h.live ≡ sessions) }
     {
+        let _kinds = shape.kinds();
         Ok(Grants {
             shape: shape.copy(),
             accords: accords.copy(alloc)?,
@@ -98,6 +103,89 @@ impl Grants {
         let row = self.rows[at];
         self.total.take_away(&row.tally);
         self.rows[at] = Row::new();
+    }
+
+    /// How many live grants there are whose accord lacks the way, which the shape has.
+    pub fn bars(&self, cell: u32, up: bool) -> u32
+        requires { HasWay self.now.accords.kinds cell up }
+        ensures { result ≡ bars self.now cell up }
+    {
+        self.total.at(cell, up)
+    }
+
+    /// The lowest live grant of another session whose accord lacks the effect, as its session and
+    /// guard; `None` exactly where there is none. The session is in range, and the effect fits the
+    /// shape.
+    pub fn barred_by(&self, session: u32, effect: &Effect) -> Option<(u32, u32)>
+        requires session { session < length self.now.live }
+        requires effect { IsEffect self.now.accords.kinds effect.now }
+        ensures { IsBarredBy self.now session effect.now result }
+    {
+        let directions = effect.directions(&self.shape);
+        let ways = directions.as_slice();
+        let own = &self.rows[session as usize].tally;
+        if own.agrees(&self.total, ways) {
+            return None;
+        }
+        self.first_bar(session, ways)
+    }
+
+    // The lowest live grant of another session whose accord lacks one of the ways.
+    fn first_bar(&self, session: u32, ways: &[Direction]) -> Option<(u32, u32)>
+        requires { AreWays self.now.accords.kinds ways.now }
+        ensures { IsLowest self.now session (λ g. admits_all self.now.accords g ways.now) result }
+    {
+        for (holder, row) in self.rows.iter().enumerate() {
+            let holder = holder as u32;
+            if holder != session {
+                if let Some(guard) = self.first_lacking(&row.live, ways) {
+                    return Some((holder, guard));
+                }
+            }
+        }
+        None
+    }
+
+    // The lowest guard granted in the row whose accord lacks one of the ways.
+    fn first_lacking(&self, live: &[bool], ways: &[Direction]) -> Option<u32>
+        requires ways { AreWays self.now.accords.kinds ways.now }
+        requires wide { length live.now ≡ MOST_GUARDS }
+        requires within { (guard : ℕ)
+            → slice_index_or live.now guard false ≡ true → guard < self.now.accords.guards }
+        ensures { IsFirst (is_bar self.now.accords live.now ways.now) result }
+    {
+        for guard in 0..self.guards {
+            if self.is_bar(live, guard, ways) {
+                return Some(guard);
+            }
+        }
+        None
+    }
+
+    // Whether the guard is granted in the row, and its accord lacks one of the ways.
+    fn is_bar(&self, live: &[bool], guard: u32, ways: &[Direction]) -> bool
+        requires ways { AreWays self.now.accords.kinds ways.now }
+        requires wide { guard < length live.now }
+        requires guard { guard < self.now.accords.guards }
+        ensures { result ≡ is_bar self.now.accords live.now ways.now guard }
+    {
+        live[guard as usize] && !self.admits(guard, ways)
+    }
+
+    // Whether the guard's accord has all of the ways.
+    fn admits(&self, guard: u32, ways: &[Direction]) -> bool
+        requires ways { AreWays self.now.accords.kinds ways.now }
+        requires guard { guard < self.now.accords.guards }
+        ensures { result ≡ admits_all self.now.accords guard ways.now }
+    {
+        let mut left = ways;
+        while let Some((way, more)) = left.split_first() {
+            if self.lacks(guard, way.cell, way.up) {
+                return false;
+            }
+            left = more;
+        }
+        true
     }
 
     // Which ways the guard's accord lacks.
