@@ -9,8 +9,8 @@ use Rattle.carol_grant.specs.declared.row.Row.{Row}
 use Rattle.carol_grant.specs.declared.tally.Tally.{Tally}
 use Rattle.carol_grant.specs.Bars.{AreWays, is_bar}
 use Rattle.carol_grant.specs.Counts.{count_row, count_rows}
-use Rattle.carol_grant.specs.Kept.{lacks_way, lives}
-use Rattle.carol_grant.specs.Tallies.{agrees, tally_at}
+use Rattle.carol_grant.specs.Kept.{IsRow, lacks_way, lives}
+use Rattle.carol_grant.specs.Tallies.{agrees, is_clear, tally_at}
 use Rattle.carol_grant.proofs.Ways.{lacks_way-is}
 
 -- a way that is not lacking makes no difference
@@ -88,6 +88,24 @@ no_foreign passes rows s t g own here apart all granted =
     let other = get_or rows t []
     in let two = count_rows-two passes rows s t own other (λ e. apart (sym e)) here (granted-row rows t g granted)
     in count_row-zero passes 0 other g g (omega arith) (omega (arith, two, all)) granted
+
+-- where a row's tally has none for the ways, it has no bar
+clear_admits : (accords : Accords) (row : Row) (ways : List Direction) (g : ℕ) → IsRow accords row → AreWays accords.kinds ways → is_clear row.tally ways ≡ true → get_or row.live g false ≡ true → admits_all accords g ways ≡ true
+clear_admits accords row [] g is are clear granted = refl
+clear_admits accords row (d ∷ ways) g is are clear granted =
+    let tests = both (eqb (tally_at row.tally d.cell d.up) 0) (is_clear row.tally ways) clear
+    in let none : count_row (lacks_way accords d.cell d.up) 0 row.live ≡ 0 =
+    sym (is.counts d.cell d.up) ∙ eqb-true (tally_at row.tally d.cell d.up) 0 tests.0
+    in let free = count_row-zero (lacks_way accords d.cell d.up) 0 row.live g g (omega arith) none granted
+    in rw (admits_step accords g d ways are free) (clear_admits accords row ways g is are.1 tests.1 granted)
+
+pub clear-none : (accords : Accords) (row : Row) (ways : List Direction) (g : ℕ) → IsRow accords row → AreWays accords.kinds ways → is_clear row.tally ways ≡ true → is_bar accords row.live ways g ≡ false
+clear-none accords row ways g is are clear =
+    no_bar (get_or row.live g false) (admits_all accords g ways) (clear_admits accords row ways g is are clear)
+  where
+    no_bar : (live admitted : Bool) → (live ≡ true → admitted ≡ true) → (live && not admitted) ≡ false
+    no_bar true admitted h = rw (h refl) refl
+    no_bar false admitted h = refl
 
 -- where the session's tally agrees with the total, no other session's grant bars
 pub agrees-free : (accords : Accords) (rows : List (List Bool)) (s t g : ℕ) (own : List Bool) (tally total : Tally) (ways : List Direction) → slice_get rows s ≡ Some own → t ≢ s → ((cell : ℕ) (up : Bool) → tally_at tally cell up ≡ count_row (lacks_way accords cell up) 0 own) → ((cell : ℕ) (up : Bool) → tally_at total cell up ≡ count_rows (lacks_way accords cell up) rows) → AreWays accords.kinds ways → agrees tally total ways ≡ true → get_or (get_or rows t []) g false ≡ true → admits_all accords g ways ≡ true

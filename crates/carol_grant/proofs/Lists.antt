@@ -23,6 +23,12 @@ module _ {X : Type 0} (P : X → Type 0) where
   AllByRecursion-at (y ∷ ys) zero x h at = let e : y ≡ x = cc in subst P e h.0
   AllByRecursion-at (y ∷ ys) (suc i) x h at = AllByRecursion-at ys i x h.1 at
 
+  -- of one that is there
+  pub AllByRecursion-get : (xs : List X) (i : ℕ) (d : X) → AllByRecursion P xs → i < length xs → P (get_or xs i d)
+  AllByRecursion-get [] i d h inside = absurd (omega arith)
+  AllByRecursion-get (y ∷ ys) zero d h inside = h.0
+  AllByRecursion-get (y ∷ ys) (suc i) d h inside = AllByRecursion-get ys i d h.1 (omega arith)
+
 -- an element of many equal ones
 pub get_or-false : (n i : ℕ) → get_or (replicate n false) i false ≡ false
 get_or-false zero i = refl

@@ -85,7 +85,10 @@ AreWays-directions kinds (atom ∷ atoms) =
     (λ up h. way_of-cell kinds atom.cell atom.value up h) (AreWays-directions kinds atoms)
 
 -- so a tally has a number for it
-pub AreWays-cells : (kinds : List CellKind) (ways : List Direction) → length kinds ≤ MOST_CELLS → AreWays kinds ways → AreCells ways
+AreWays-cells : (kinds : List CellKind) (ways : List Direction) → length kinds ≤ MOST_CELLS → AreWays kinds ways → AreCells ways
 AreWays-cells kinds [] few are = tt
 AreWays-cells kinds (d ∷ ways) few are =
     (omega (arith, HasWay-inside kinds d.cell d.up are.0), AreWays-cells kinds ways few are.1)
+
+pub AreCells-directions : (kinds : List CellKind) (effect : List Atom) → length kinds ≤ MOST_CELLS → AreCells (directions kinds effect)
+AreCells-directions kinds effect few = AreWays-cells kinds (directions kinds effect) few (AreWays-directions kinds effect)

@@ -28,6 +28,11 @@ abbrev pub AreCells : List Direction → Type 0
 AreCells [] = Unit {0}
 AreCells (way ∷ ways) = (way.cell < MOST_CELLS) × AreCells ways
 
+-- no grant lacks any of the ways
+abbrev pub is_clear : Tally → List Direction → Bool
+is_clear t [] = true
+is_clear t (way ∷ ways) = (tally_at t way.cell way.up == 0) && is_clear t ways
+
 -- both have the same number for each of the ways
 abbrev pub agrees : Tally → Tally → List Direction → Bool
 agrees t u [] = true

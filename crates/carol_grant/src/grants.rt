@@ -31,14 +31,21 @@ impl Model for Grants {
 }
 
 impl Grants {
-    ghost use Rattle.std.specs.Prelude.{Bool, true, slice_index_or};
+    ghost use Rattle.std.specs.Prelude.{Bool, slice_index_or};
     ghost use Rattle.carol_program.specs.Accords.{HasWay};
     ghost use Rattle.carol_program.specs.Admitting.{admits_all};
     ghost use Rattle.carol_store.specs.Effects.{IsEffect};
     ghost use Rattle.carol_grant.specs.Bars.{AreWays, IsFirst, is_bar};
-    ghost use Rattle.carol_grant.specs.Grants.{Closes, GrantsOne, IsBarredBy, IsLowest, bars, is_granted};
-    ghost use Rattle.carol_grant.specs.Kept.{lacks_way};
-    ghost use Rattle.carol_grant.specs.Tallies.{IsLacking, lacking_at};
+    ghost use Rattle.carol_grant.specs.Grants.{
+      Closes,
+      GrantsOne,
+      IsBarredBy,
+      IsLowest,
+      bars,
+      is_granted,
+    };
+    ghost use Rattle.carol_grant.specs.Kept.{IsRow, lacks_way};
+    ghost use Rattle.carol_grant.specs.Tallies.{AreCells, IsLacking, lacking_at};
 
     /// No grants of this many guards, whose accords these are, to this many sessions. There are at
     /// most 64 sessions and 16 guards, and the table is one of the shape and the guards.
@@ -132,13 +139,14 @@ impl Grants {
 
     // The lowest live grant of another session whose accord lacks one of the ways.
     fn first_bar(&self, session: u32, ways: &[Direction]) -> Option<(u32, u32)>
-        requires { AreWays self.now.accords.kinds ways.now }
+        requires ways { AreWays self.now.accords.kinds ways.now }
+        requires cells { AreCells ways.now }
         ensures { IsLowest self.now session (λ g. admits_all self.now.accords g ways.now) result }
     {
         for (holder, row) in self.rows.iter().enumerate() {
             let holder = holder as u32;
             if holder != session {
-                if let Some(guard) = self.first_lacking(&row.live, ways) {
+                if let Some(guard) = self.first_lacking(row, ways) {
                     return Some((holder, guard));
                 }
             }
@@ -147,15 +155,17 @@ impl Grants {
     }
 
     // The lowest guard granted in the row whose accord lacks one of the ways.
-    fn first_lacking(&self, live: &[bool], ways: &[Direction]) -> Option<u32>
+    fn first_lacking(&self, row: &Row, ways: &[Direction]) -> Option<u32>
+        requires row { IsRow self.now.accords row.now }
         requires ways { AreWays self.now.accords.kinds ways.now }
-        requires wide { length live.now ≡ MOST_GUARDS }
-        requires within { (guard : ℕ)
-            → slice_index_or live.now guard false ≡ true → guard < self.now.accords.guards }
-        ensures { IsFirst (is_bar self.now.accords live.now ways.now) result }
+        requires cells { AreCells ways.now }
+        ensures { IsFirst (is_bar self.now.accords row.now.live ways.now) result }
     {
+        if row.tally.is_clear(ways) {
+            return None;
+        }
         for guard in 0..self.guards {
-            if self.is_bar(live, guard, ways) {
+            if self.is_bar(&row.live, guard, ways) {
                 return Some(guard);
             }
         }

@@ -13,7 +13,7 @@ pub const MOST_SESSIONS: usize = 64;
 
 /// The grants of one session: whether each guard is granted to it, and how many of those that are
 /// lack each way.
-#[derive(Clone, Copy, Debug)]
+#[derive(Clone, Copy)]
 pub struct Row {
     pub live: [bool; MOST_GUARDS],
     pub tally: Tally,

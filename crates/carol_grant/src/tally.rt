@@ -1,17 +1,17 @@
 ghost use Rattle.std.specs.Prelude.{◌≡◌, ℕ, ◌+◌, ◌<◌, ◌≤◌, Bool, if◌then◌else◌, length, slice_index, slice_index_or, false};
-ghost use Rattle.carol_grant.specs.Tallies.{AreCells, IsLacking, IsTally, agrees, lacking_at, tally_at};
+ghost use Rattle.carol_grant.specs.Tallies.{AreCells, IsLacking, IsTally, agrees, is_clear, lacking_at, tally_at};
 
 use carol_store::{Direction, MOST_CELLS};
 
 /// How many grants lack each way, by cell: up, and down.
-#[derive(Clone, Copy, Debug)]
+#[derive(Clone, Copy)]
 pub struct Tally {
     pub up: [u32; MOST_CELLS],
     pub down: [u32; MOST_CELLS],
 }
 
 /// Which ways one guard's accord lacks, by cell: up, and down.
-#[derive(Clone, Copy, Debug)]
+#[derive(Clone, Copy)]
 pub struct Lacking {
     pub up: [bool; MOST_CELLS],
     pub down: [bool; MOST_CELLS],
@@ -67,6 +67,22 @@ impl Tally {
         } else {
             self.down[cell as usize]
         }
+    }
+
+    /// Whether no grant lacks any of the ways.
+    pub fn is_clear(&self, ways: &[Direction]) -> bool
+        requires size { IsTally self.now }
+        requires ways { AreCells ways.now }
+        ensures { result ≡ is_clear self.now ways.now }
+    {
+        let mut left = ways;
+        while let Some((way, more)) = left.split_first() {
+            if self.at(way.cell, way.up) != 0 {
+                return false;
+            }
+            left = more;
+        }
+        true
     }
 
     /// Whether both have the same number for each of the ways.

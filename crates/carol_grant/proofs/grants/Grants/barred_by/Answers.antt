@@ -6,14 +6,13 @@ use Rattle.carol_grant.specs.Tallies.{agrees}
 use Rattle.carol_grant.proofs.Bars.{agrees-free}
 use Rattle.carol_grant.proofs.Kept.{lives-at, row_read}
 use Rattle.carol_grant.proofs.Lists.{AllByRecursion-at}
-use Rattle.carol_grant.proofs.Ways.{AreWays-cells, AreWays-directions}
+use Rattle.carol_grant.proofs.Ways.{AreCells-directions, AreWays-directions}
 use Rattle.carol_grant.proofs.grants.Grants.barred_by.Goals as goal
 
 pub agrees-requires-clause-ways : goal.agrees-requires-clause-ways
 agrees-requires-clause-ways c =
     let f = c.self.inside
-    in rw (c.as_slice-ways.ensures.items, c.directions-directions.ensures)
-    (AreWays-cells f.shape (directions f.shape c.args.effect.now) c.self.invariant.few_cells (AreWays-directions f.shape c.args.effect.now))
+    in rw (c.as_slice-ways.ensures.items, c.directions-directions.ensures) (AreCells-directions f.shape c.args.effect.now c.self.invariant.few_cells)
 
 pub returns-then-agrees : goal.returns-then-agrees
 returns-then-agrees c =
@@ -27,7 +26,12 @@ returns-then-agrees c =
     in rw (← c.self.view_is) (λ s g apart granted.
     agrees-free f.accords (lives f.rows.items) c.args.session s g row.live row.tally f.total ways (lives-at f.rows.items c.args.session row at) apart is.counts c.self.invariant.counts (AreWays-directions f.accords.kinds c.args.effect.now) same granted)
 
-pub first_bar-requires : goal.first_bar-requires
-first_bar-requires c =
+pub first_bar-requires-clause-ways : goal.first_bar-requires-clause-ways
+first_bar-requires-clause-ways c =
     let f = c.self.inside
     in rw (← c.self.view_is, c.as_slice-ways.ensures.items, c.directions-directions.ensures, ← c.self.invariant.shape) (AreWays-directions f.accords.kinds c.args.effect.now)
+
+pub first_bar-requires-clause-cells : goal.first_bar-requires-clause-cells
+first_bar-requires-clause-cells c =
+    let f = c.self.inside
+    in rw (c.as_slice-ways.ensures.items, c.directions-directions.ensures) (AreCells-directions f.shape c.args.effect.now c.self.invariant.few_cells)
