@@ -14,7 +14,7 @@ use Rattle.carol_history.specs.Journals.{effect_at, is_at, is_held, journal, loc
 use Rattle.carol_history.specs.Legal.{Admits, IsSettled}
 use Rattle.carol_history.specs.Links.{is_joined, is_pair}
 use Rattle.carol_holding.specs.Held.{Adds, Holding, holds}
-use Rattle.carol_replica.specs.Entries.{Changes, Replicas, local_at}
+use Rattle.carol_replica.specs.Stored.{Changes, Replicas, local_at}
 use Rattle.carol_house.specs.Kept.{AreJoined, AreLocals, AreSettled, IsHolding, are_joined, settled_below}
 use Rattle.carol_house.specs.Moves.{link_event}
 use Rattle.carol_house.proofs.Lists.{get_or-push_left}

@@ -20,7 +20,8 @@ use Rattle.carol_history.specs.Journals.{effect_at}
 use Rattle.carol_history.specs.Laws.{GlobalGrows, LiveAfter}
 use Rattle.carol_history.specs.Links.{is_pair}
 use Rattle.carol_holding.specs.Held.{Adds, Holding}
-use Rattle.carol_replica.specs.Entries.{Changes, Journal, Replicas}
+use Rattle.carol_replica.specs.Entries.{Journal}
+use Rattle.carol_replica.specs.Stored.{Changes, Replicas}
 use Rattle.carol_grant.specs.Grants.{Closes, Grants, GrantsOne, is_granted}
 use Rattle.carol_machine.specs.States.{SessionState}
 use Rattle.carol_house.specs.declared.tables.Tables.{Tables}

@@ -4,3 +4,4 @@ mod Sessions
 mod Entries
 mod Eventful
 mod Entering
+mod Arriving

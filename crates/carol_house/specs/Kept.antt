@@ -14,7 +14,7 @@ use Rattle.carol_history.specs.Legal.{IsSettled}
 use Rattle.carol_history.specs.Links.{is_joined}
 use Rattle.carol_history.specs.Runs.{Run}
 use Rattle.carol_holding.specs.Held.{Holding, holds}
-use Rattle.carol_replica.specs.Entries.{Journal, Replicas, local_at}
+use Rattle.carol_replica.specs.Stored.{Replicas, local_at}
 use Rattle.carol_grant.specs.Grants.{Grants, is_granted}
 use Rattle.carol_machine.specs.States.{SessionState, IsAt}
 use Rattle.carol_house.specs.declared.tables.Tables.{Tables}

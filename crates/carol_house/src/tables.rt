@@ -49,7 +49,7 @@ impl Tables {
             machines: machines_of(alloc, accepted, scene.sessions.as_slice(), scene.tries)?,
             grants: Grants::new(alloc, &program.shape, accepted.accords(), sessions, guards)?,
             holding: Holding::new(alloc, scene.replicas)?,
-            journal: Journal::new(alloc)?,
+            journal: Journal::new(alloc),
             replicas: Replicas::new(alloc, &program.shape, &program.initial, scene.replicas)?,
             links: Links::new(),
             settled: Settled::new(),

@@ -91,9 +91,9 @@ impl House {
         history_laws();
         simulation();
         store_laws();
+        let replica = self.replica_of(session);
         let shape = &self.accepted.program().shape;
         let made = Effect::new(*self.events.allocator(), shape, effect.as_slice());
-        let replica = self.scene.sessions.as_slice()[session as usize].replica;
         self.tables.machines[session as usize].feed(&self.accepted, &Fed::Issued);
         self.tables.grants.close(session);
         self.tables.journal.push(&made).unwrap();

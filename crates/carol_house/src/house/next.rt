@@ -120,8 +120,8 @@ impl House {
         self.tables.grants.barred_by(session, effect)
     }
 
-    // The replica of the session.
-    fn replica_of(&self, session: u32) -> u32
+    /// The replica of the session, which is in range.
+    pub(crate) fn replica_of(&self, session: u32) -> u32
         requires { session < length self.now.scene.sessions }
         ensures { IsHome self.now.scene session result }
     {

@@ -23,7 +23,7 @@ close-requires c =
     in let h : House = house_of s.accepted s.scene s.events.items s.spare
     in let legal : Legal (rules_of h) s.scene (Refuse c.args.session c.args.cause) h.history = subst (λ (x : House). Legal (rules_of x) x.scene (Refuse c.args.session c.args.cause) x.history) (sym c.self.view_is) c.requires.legal
     in let at : slice_get s.tables.machines.items c.args.session ≡ Some c.index_mut.result.now = machine_there h s.tables (vec_capacity s.events) c.args.session c.index_mut.result.now c.self.invariant (refused_way (rules_of h) s.scene c.args.session c.args.cause h.history legal) c.index_mut.ensures.value
-    in record { session = rw (c.self.invariant.tables.grants_each, ← c.self.invariant.tables.machine_each) (slice_get_within s.tables.machines.items c.args.session c.index_mut.result.now at) }
+    in rw (c.self.invariant.tables.grants_each, ← c.self.invariant.tables.machine_each) (slice_get_within s.tables.machines.items c.args.session c.index_mut.result.now at)
 
 pub invariant_of-self : goal.invariant_of-self
 invariant_of-self c =

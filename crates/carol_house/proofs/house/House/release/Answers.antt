@@ -23,7 +23,7 @@ close-requires c =
     in let h : House = house_of s.accepted s.scene s.events.items s.spare
     in let legal = rw (← c.self.view_is) at c.requires.legal
     in let at : slice_get s.tables.machines.items c.args.session ≡ Some c.index_mut.result.now = machine_there h s.tables (vec_capacity s.events) c.args.session c.index_mut.result.now c.self.invariant legal.way c.index_mut.ensures.value
-    in record { session = rw (c.self.invariant.tables.grants_each, ← c.self.invariant.tables.machine_each) (slice_get_within s.tables.machines.items c.args.session c.index_mut.result.now at) }
+    in rw (c.self.invariant.tables.grants_each, ← c.self.invariant.tables.machine_each) (slice_get_within s.tables.machines.items c.args.session c.index_mut.result.now at)
 
 pub invariant_of-self : goal.invariant_of-self
 invariant_of-self c =
