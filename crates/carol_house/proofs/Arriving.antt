@@ -1,5 +1,6 @@
 -- Where an effect arrives, its store has room for it.
-use Rattle.std.proofs.Common.{◌≡◌, ℕ, ◌<◌, List, length, arith}
+use Rattle.std.proofs.Common.{◌≡◌, ℕ, ◌<◌, List, [], length, get_or, refl, arith}
+use Rattle.std.proofs.lemmas.Option.{slice_get-get_or}
 use Rattle.carol_store.specs.declared.effect.Atom.{Atom}
 use Rattle.carol_store.specs.Effects.{IsEffect}
 use Rattle.carol_store.specs.Laws.{EffectsAddLittle}
@@ -7,6 +8,8 @@ use Rattle.carol_store.specs.Stores.{IsStore, StaysInWords}
 use Rattle.carol_history.specs.declared.history.TheConstants.{MOST_EVENTS}
 use Rattle.carol_history.specs.Journals.{effect_at, journal}
 use Rattle.carol_history.specs.Laws.{HeldAreEntries}
+use Rattle.carol_history.specs.Legal.{MayDeliver}
+use Rattle.carol_history.proofs.Actors.{at_place}
 use Rattle.carol_history.proofs.Low.{length-journal}
 use Rattle.carol_simulation.specs.Upheld.{RunsUphold}
 use Rattle.carol_simulation.proofs.Queries.{store_after_all}
@@ -14,7 +17,7 @@ use Rattle.carol_replica.specs.Stored.{local_at}
 use Rattle.carol_house.specs.declared.tables.Tables.{Tables}
 use Rattle.carol_house.specs.House.{House, rules_of}
 use Rattle.carol_house.specs.Kept.{IsKept}
-use Rattle.carol_house.proofs.Sound.{local_store, low_stays, upheld}
+use Rattle.carol_house.proofs.Sound.{entries_fit, local_store, low_stays, upheld}
 
 module _ (h : House) (t : Tables) (capacity : ℕ) (k : IsKept h t capacity) where
   pub store_there : (replica : ℕ) → replica < h.scene.replicas → IsStore (rules_of h).shape (local_at t.replicas replica)
@@ -33,3 +36,15 @@ module _ (h : House) (t : Tables) (capacity : ℕ) (k : IsKept h t capacity) whe
   -- there are fewer entries than events
   pub few_entries : length h.history < MOST_EVENTS → length t.journal.entries < 131_072
   few_entries few = rw k.tables.journal (omega (arith, length-journal h.history))
+
+  -- an entry that is delivered is one of the journal, and an effect of the shape
+  pub delivered_inside : HeldAreEntries h.scene h.history → (source target entry : ℕ) → MayDeliver h.scene source target entry h.history → entry < length t.journal.entries
+  delivered_inside held source target entry may = rw k.tables.journal (held source entry may.held)
+
+  pub delivered_effect : (entry : ℕ) → get_or t.journal.entries entry [] ≡ effect_at entry h.history
+  delivered_effect entry = rw k.tables.journal refl
+
+  pub delivered_fits : RunsUphold → HeldAreEntries h.scene h.history → (source target entry : ℕ) → MayDeliver h.scene source target entry h.history → IsEffect (rules_of h).shape (get_or t.journal.entries entry [])
+  delivered_fits law held source target entry may =
+      let inside : entry < length t.journal.entries = delivered_inside held source target entry may
+      in at_place (IsEffect (rules_of h).shape) t.journal.entries entry (get_or t.journal.entries entry []) (entries_fit h t capacity k law) (slice_get-get_or t.journal.entries entry [] inside)
