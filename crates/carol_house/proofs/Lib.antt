@@ -5,3 +5,5 @@ mod Entries
 mod Eventful
 mod Entering
 mod Arriving
+mod Wishing
+mod Forcing
