@@ -18,6 +18,7 @@ use Rattle.carol_history.specs.Journals.{is_held, journal, local}
 use Rattle.carol_history.specs.Legal.{IsFree, IsSettled, Lacks}
 use Rattle.carol_history.specs.Links.{is_linked}
 use Rattle.carol_machine.specs.declared.wish.Wish.TheVariants as wish
+use Rattle.carol_house.proofs.Sound.{local_store}
 use Rattle.carol_house.specs.Nexts.{GoesOnWith, IsBarredBy, IsFirstOutside, IsHolder, IsHome, IsLowestHolder, IsOutside}
 
 module _ (p : Rules) (scene : Scene) (session : ℕ) (past : List Event) where
@@ -27,9 +28,10 @@ module _ (p : Rules) (scene : Scene) (session : ℕ) (past : List Event) where
       let same : home.plan ≡ way.plan = same_Some home.plan way.plan (sym home.planned ∙ way.planned)
       in home.is ∙ ap (λ (q : SessionPlan). q.replica) same
 
-  pub query_forced : (guard : ℕ) (store : List CellValue) (replica : ℕ) → GoesOnWith p scene session (wish.Query guard) past → IsHome scene session replica → IsStore p.shape store → store ≡ local p scene replica past → Forced p scene session (Query session guard store) past
-  query_forced guard store replica goes home is seen =
-      let next : Next p scene session (Asked guard store) past = goes.next (Asked guard store) (refl, is)
+  pub query_forced : (guard : ℕ) (store : List CellValue) (replica : ℕ) → GoesOnWith p scene session (wish.Query guard) past → IsHome scene session replica → store ≡ local p scene replica past → Forced p scene session (Query session guard store) past
+  query_forced guard store replica goes home seen =
+      let is : IsStore p.shape store = rw seen (local_store p scene goes.start replica past)
+      in let next : Next p scene session (Asked guard store) past = goes.next (Asked guard store) (refl, is)
       in (refl, record { next = next; live = goes.fit.1; seen = seen ∙ ap (λ (r : ℕ). local p scene r past) (home_is replica home next.way) })
 
   pub issue_forced : (entry : ℕ) (effect : List Atom) → GoesOnWith p scene session (wish.Issue effect) past → entry ≡ length (journal past) → IsFree p session effect past → Forced p scene session (Issue session entry effect) past
@@ -45,9 +47,9 @@ module _ (p : Rules) (scene : Scene) (session : ℕ) (past : List Event) where
     lowest = bar.lowest;
   })
 
-  module _ (guard replica : ℕ) (goes : GoesOnWith p scene session (wish.Guard guard) past) (home : IsHome scene session replica) (start : IsStore p.shape p.initial) where
+  module _ (guard replica : ℕ) (goes : GoesOnWith p scene session (wish.Guard guard) past) (home : IsHome scene session replica) where
     next : Next p scene session (Asked guard p.initial) past
-    next = goes.next (Asked guard p.initial) (refl, start)
+    next = goes.next (Asked guard p.initial) (refl, goes.start)
 
     here : replica ≡ next.way.plan.replica
     here = home_is replica home next.way

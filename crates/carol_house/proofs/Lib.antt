@@ -7,3 +7,4 @@ mod Entering
 mod Arriving
 mod Wishing
 mod Forcing
+mod Outside

@@ -3,6 +3,7 @@ use Rattle.std.proofs.Common.{◌≡◌, ◌≢◌, ℕ, ◌<◌, true, false, L
 use Rattle.std.specs.Prelude.{◌↔◌, Option, Some, None, slice_get}
 use Rattle.std.proofs.lemmas.Option.{same_Some}
 use Rattle.carol_store.specs.declared.effect.Atom.{Atom}
+use Rattle.carol_store.specs.Stores.{IsStore}
 use Rattle.carol_program.specs.Admitting.{admits}
 use Rattle.carol_program.specs.Rules.{Rules, OpRules}
 use Rattle.carol_program.specs.Variables.{number_of_args}
@@ -29,7 +30,7 @@ use Rattle.carol_house.proofs.Sound.{may_run}
 
 -- ---- what a machine wishes for
 
-module _ (p : Rules) (scene : Scene) (session : ℕ) (past : List Event) (m : SessionState) (one : IsMachineOf scene session (acts session past) m) where
+module _ (p : Rules) (scene : Scene) (session : ℕ) (past : List Event) (m : SessionState) (one : IsMachineOf scene session (acts session past) m) (start : IsStore p.shape p.initial) where
   -- the command that its machine has under way is the session's
   under_way : (command : Command) → slice_get m.plan.commands (place m.tries (acts session past)).command ≡ Some command → UnderWay scene session past
   under_way command present = record { plan = m.plan; command = command; planned = one.planned; present = rw (← one.tries) present }
@@ -43,6 +44,7 @@ module _ (p : Rules) (scene : Scene) (session : ℕ) (past : List Event) (m : Se
       reads = (next.next mark).1 suits;
     };
     fit = next.fit;
+    start = start;
   }
 
   finished : slice_get m.plan.commands (place m.tries (acts session past)).command ≡ None → UnderWay scene session past → ⊥

@@ -1,6 +1,7 @@
 -- What a session goes on with, and what keeps it from doing so.
 use Rattle.std.specs.Prelude.{◌≡◌, ◌≢◌, ℕ, ◌<◌, ◌≤◌, true, false, Bool, ◌||◌, List, [], length, get_or, Option, Some, None, slice_get}
 use Rattle.carol_store.specs.declared.effect.Atom.{Atom}
+use Rattle.carol_store.specs.Stores.{IsStore}
 use Rattle.carol_program.specs.Accords.{Accords}
 use Rattle.carol_program.specs.Admitting.{admits}
 use Rattle.carol_program.specs.Rules.{Rules}
@@ -20,11 +21,12 @@ use Rattle.carol_machine.specs.declared.wish.Wish.TheVariants as wish
 use Rattle.carol_machine.specs.Wishes.{IsFit, SuitsWish}
 use Rattle.carol_house.specs.declared.tables.Tables.{Tables}
 
--- the session may leave each mark next that its wish leads to
+-- the session may leave each mark next that its wish leads to, and stores there are
 pub record GoesOnWith
     (p : Rules) (scene : Scene) (session : ℕ) (w : Wish) (past : List Event) : Type 0 where
   pub next : (mark : Mark) → SuitsWish p.shape w mark → Next p scene session mark past
   pub fit : IsFit p (acts session past) w
+  pub start : IsStore p.shape p.initial
 
 -- the wish is the session's; it is finished where no command is under way
 abbrev pub Wishes : Rules → Scene → ℕ → Wish → List Event → Type 0

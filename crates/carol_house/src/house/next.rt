@@ -137,15 +137,15 @@ impl House {
         ensures same { self.new ≡ self.old }
     {
         simulation();
+        history_laws();
         let below = self.tables.settled.below(replica, guard);
         let start = below.max(self.tables.holding.front(replica));
         let found = first_unsettled(&self.tables, &self.accepted, replica, guard, start);
         self.tables.settled.set(replica, guard, found);
-        if found < self.tables.journal.len() {
-            Some(found)
-        } else {
-            None
+        if found == self.tables.journal.len() {
+            return None;
         }
+        Some(found)
     }
 
     // The lowest replica that is linked to the target and holds the entry. The target is in range.

@@ -24,4 +24,4 @@ returns c =
     in let one = c.self.invariant.tables.machines c.args.session c.index.result.now at
     in let reads = reads_so_far h s.tables (vec_capacity s.events) c.self.invariant c.simulation.ensures.walks c.args.session c.index.result.now at
     in subst (λ (x : House). Wishes (rules_of x) x.scene c.args.session c.action.result x.history) c.self.view_is
-    (wishes (rules_of h) h.scene c.args.session h.history c.index.result.now one c.action.result (c.action.ensures (acts c.args.session h.history) one.at reads))
+    (wishes (rules_of h) h.scene c.args.session h.history c.index.result.now one c.self.invariant.may.well_formed.rules.store c.action.result (c.action.ensures (acts c.args.session h.history) one.at reads))
