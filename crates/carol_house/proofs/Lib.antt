@@ -8,3 +8,4 @@ mod Arriving
 mod Wishing
 mod Forcing
 mod Outside
+mod Room
