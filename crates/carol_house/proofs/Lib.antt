@@ -9,3 +9,5 @@ mod Wishing
 mod Forcing
 mod Outside
 mod Room
+mod Readers
+mod Moving

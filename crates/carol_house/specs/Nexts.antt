@@ -114,6 +114,7 @@ abbrev pub IsMissing : Scene → ℕ → ℕ → Option ℕ → List Event → T
 IsMissing scene source target None past =
     HoldsAllBelow scene source target (length (journal past)) past
 IsMissing scene source target (Some entry) past =
-    (is_held scene.sessions source entry past ≡ true)
+    (entry < length (journal past))
+    × (is_held scene.sessions source entry past ≡ true)
     × (is_held scene.sessions target entry past ≡ false)
     × HoldsAllBelow scene source target entry past

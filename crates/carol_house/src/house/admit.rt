@@ -80,11 +80,11 @@ impl House {
         let Some(forced) = self.forced(session) else {
             return None;
         };
-        if is_same(&forced, event) {
-            Some(forced)
-        } else {
-            None
+        let _valid = self.scene();
+        if !is_same(&forced, event) {
+            return None;
         }
+        Some(forced)
     }
 }
 

@@ -7,7 +7,7 @@ use crate::house::House;
 use crate::house::enter::link_event;
 use crate::moved::{Admitted, Gossip, Moved};
 use carol_event::Event;
-use carol_history::MOST_EVENTS;
+use carol_history::{MOST_EVENTS, history_laws};
 use std::alloc::AllocError;
 
 impl House {
@@ -24,9 +24,11 @@ impl House {
         ensures ok { IfOk result (λ moved. Advances self.old session moved self.new) }
         ensures err { IfErr result (λ error. FailsToAdvance self.old session error self.new) }
     {
+        history_laws();
         let Some(event) = self.forced(session) else {
             return Ok(Moved::Finished);
         };
+        let _valid = self.scene();
         self.make_way()?;
         let kind = kind_of(&event);
         self.enter(event);

@@ -186,6 +186,7 @@ impl House {
         requires to { to < self.now.scene.replicas }
         ensures { IsMissing self.now.scene from to result self.now.history }
     {
+        history_laws();
         self.tables.holding.first_missing(from, to)
     }
 }

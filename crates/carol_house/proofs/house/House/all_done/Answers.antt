@@ -1,0 +1,15 @@
+use Rattle.std.proofs.Common.{rules, ◌≡◌, ◌↔◌, ◌<◌, true, length, reverse, [], None, IfOk, ℕ, ◌+◌, ◌-◌, ◌*◌, ◌≤◌, ◌/◌, ◌%◌, Bool, false, nat_eq, nat_lt, List, ◌∷◌, ◌++◌, slice_index_or, slice_set, bit_and, bit_or, Fits, w8, w32, w64, Bor, MutBor}
+use Rattle.std.specs.List.{AllByRecursion}
+use Rattle.carol_program.specs.Rules.{rules_in}
+use Rattle.carol_program.specs.Scenes.{IsValidScene}
+use Rattle.carol_history.specs.Journals.{global, local}
+use Rattle.carol_history.specs.Results.{AreDone}
+use Rattle.carol_history.specs.Results.{result as result_of}
+use Rattle.carol_machine.specs.States.{present_in}
+use Rattle.carol_house.specs.House.{HasPlanned, IsHistory, UpholdsAll, rules_of}
+use Rattle.carol_house.specs.Moves.{HasCommand}
+use Rattle.carol_house.proofs.house.House.all_done.Goals as goal
+
+-- src/house.rt:91:5
+pub returns : goal.returns
+returns c = ?
