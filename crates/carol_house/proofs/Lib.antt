@@ -11,3 +11,4 @@ mod Outside
 mod Room
 mod Readers
 mod Moving
+mod Starting

@@ -3,7 +3,7 @@ use Rattle.std.proofs.Common.{◌≡◌, ℕ, suc, ◌<◌, ◌≤◌, Bool, tru
 use Rattle.std.specs.Prelude.{◌↔◌, ◌⊎◌, Option, Some, None, not, slice_get}
 use Rattle.std.specs.List.{AllByRecursion}
 use Rattle.std.specs.Option.{is_some}
-use Rattle.std.proofs.lemmas.Bool.{cases_Bool, le-ltb, lt-ltb}
+use Rattle.std.proofs.lemmas.Bool.{and_from, and_parts, cases_Bool, le-ltb, lt-ltb}
 use Rattle.std.proofs.lemmas.List.{take-append-drop}
 use Rattle.std.proofs.lemmas.Option.{same_Some, slice_get_cases, slice_get_within}
 use Rattle.carol_program.specs.declared.scenes.Scene.{Scene}
@@ -12,14 +12,15 @@ use Rattle.carol_event.specs.declared.event.Event.{Event}
 use Rattle.carol_history.specs.declared.outcome.Outcome.{Outcome}
 use Rattle.carol_history.specs.declared.outcome.Outcome.TheVariants as outcome
 use Rattle.carol_history.specs.Acts.{UnderWay, acts, place}
-use Rattle.carol_history.specs.Results.{outcomes, result}
+use Rattle.carol_history.specs.Laws.{DoneIsNoneUnderWay}
+use Rattle.carol_history.specs.Results.{AreDone, outcomes, result}
 use Rattle.carol_history.specs.Runs.{Run}
 use Rattle.carol_history.proofs.Actors.{at_place, is_there}
 use Rattle.carol_simulation.specs.Upheld.{RunsUphold, Upheld}
 use Rattle.carol_machine.specs.States.{SessionState, present_in}
 use Rattle.carol_house.specs.declared.tables.Tables.{Tables}
 use Rattle.carol_house.specs.House.{HasCommandIn, HasPlanned, House, UpholdsAll, rules_of}
-use Rattle.carol_house.specs.Kept.{IsKept, IsMachineOf}
+use Rattle.carol_house.specs.Kept.{IsKept, IsMachineOf, are_done}
 use Rattle.carol_house.proofs.Sound.{may_run}
 
 -- all is upheld up to each event
@@ -82,7 +83,21 @@ all_from : (P : SessionState → Type 0) (ms : List SessionState) → ((i : ℕ)
 all_from P [] h = tt
 all_from P (m ∷ ms) h = (h 0 m refl, all_from P ms (λ i x at. h (suc i) x at))
 
-pub none_under_way : (h : House) (t : Tables) (capacity : ℕ) → IsKept h t capacity → AllByRecursion (λ m. present_in m ≡ None) t.machines.items ↔ ((session : ℕ) → UnderWay h.scene session h.history → ⊥)
+all_done : (ms : List SessionState) → (are_done ms ≡ true) ↔ AllByRecursion (λ m. present_in m ≡ None) ms
+all_done [] = (λ _. tt, λ _. refl)
+all_done (m ∷ ms) =
+    let here = none_is (present_in m) (not (is_some (present_in m))) (sym (not-not (is_some (present_in m))))
+    in let rest = all_done ms
+    in (
+      λ e. let parts = and_parts (not (is_some (present_in m))) (are_done ms) e in (here.0 parts.0, rest.0 parts.1),
+      λ all. and_from (not (is_some (present_in m))) (are_done ms) (here.1 all.0) (rest.1 all.1),
+    )
+  where
+    not-not : (b : Bool) → not (not b) ≡ b
+    not-not true = refl
+    not-not false = refl
+
+none_under_way : (h : House) (t : Tables) (capacity : ℕ) → IsKept h t capacity → AllByRecursion (λ m. present_in m ≡ None) t.machines.items ↔ ((session : ℕ) → UnderWay h.scene session h.history → ⊥)
 none_under_way h t capacity k = (nobody, all)
   where
     nobody : AllByRecursion (λ m. present_in m ≡ None) t.machines.items → (session : ℕ) → UnderWay h.scene session h.history → ⊥
@@ -103,3 +118,10 @@ planned_there scene session command has = there (slice_get scene.sessions sessio
     there : (o : Option SessionPlan) → slice_get scene.sessions session ≡ o → HasCommandIn o command → session < length scene.sessions
     there None e h = absurd h
     there (Some plan) e h = slice_get_within scene.sessions session plan e
+
+-- all commands are done where the machines say so
+pub done_is : (h : House) (t : Tables) (capacity : ℕ) → IsKept h t capacity → DoneIsNoneUnderWay h.scene h.history → (are_done t.machines.items ≡ true) ↔ AreDone h.scene h.history
+done_is h t capacity k law =
+    let told = all_done t.machines.items
+    in let nobody = none_under_way h t capacity k
+    in (λ e. law.1 (nobody.0 (told.0 e)), λ all. told.1 (nobody.1 (law.0 all)))

@@ -1,5 +1,6 @@
 -- What a house keeps at hand of its history.
-use Rattle.std.specs.Prelude.{◌≡◌, ℕ, ◌+◌, ◌<◌, ◌≤◌, Bool, true, List, [], length, get_or, Some, slice_get}
+use Rattle.std.specs.Prelude.{◌≡◌, ℕ, ◌+◌, ◌<◌, ◌≤◌, Bool, true, not, ◌&&◌, List, [], ◌∷◌, length, get_or, Some, slice_get}
+use Rattle.std.specs.Option.{is_some}
 use Rattle.carol_program.specs.Accords.{Accords}
 use Rattle.carol_program.specs.Limits.{most_replicas}
 use Rattle.carol_program.specs.Rules.{Rules}
@@ -16,7 +17,7 @@ use Rattle.carol_history.specs.Runs.{Run}
 use Rattle.carol_holding.specs.Held.{Holding, holds}
 use Rattle.carol_replica.specs.Stored.{Replicas, local_at}
 use Rattle.carol_grant.specs.Grants.{Grants, is_granted}
-use Rattle.carol_machine.specs.States.{SessionState, IsAt}
+use Rattle.carol_machine.specs.States.{SessionState, IsAt, present_in}
 use Rattle.carol_house.specs.declared.tables.Tables.{Tables}
 use Rattle.carol_house.specs.House.{House, rules_of}
 
@@ -98,3 +99,8 @@ pub record IsKept (house : House) (t : Tables) (capacity : ℕ) : Type 0 where
   pub few : length house.history ≤ MOST_EVENTS
   pub tables : AreTables (rules_of house) house.kept.accords house.scene house.history t
   pub room : HasRoom house.spare house.history t capacity
+
+-- no machine has a command under way
+abbrev pub are_done : List SessionState → Bool
+are_done [] = true
+are_done (m ∷ ms) = not (is_some (present_in m)) && are_done ms

@@ -1,10 +1,9 @@
-ghost use Rattle.std.specs.Prelude.{◌≡◌, ◌↔◌, ◌<◌, true, length, reverse, [], None, IfOk};
-ghost use Rattle.std.specs.List.{AllByRecursion};
+ghost use Rattle.std.specs.Prelude.{◌≡◌, ◌↔◌, ◌<◌, true, length, reverse, [], IfOk};
 ghost use Rattle.carol_program.specs.Rules.{rules_in};
 ghost use Rattle.carol_program.specs.Scenes.{IsValidScene};
 ghost use Rattle.carol_history.specs.Journals.{global, local};
 ghost use Rattle.carol_history.specs.Results.{AreDone, result as result_of};
-ghost use Rattle.carol_machine.specs.States.{present_in};
+ghost use Rattle.carol_house.specs.Kept.{are_done};
 
 use crate::tables::Tables;
 use carol_event::Event;
@@ -92,7 +91,7 @@ impl House {
         ensures { (result ≡ true) ↔ AreDone self.now.scene self.now.history }
     {
         history_laws();
-        are_done(&self.tables.machines)
+        are_done(self.tables.machines.as_slice())
     }
 
     /// Whether all commands of the session are done, which is in range.
@@ -151,7 +150,7 @@ impl House {
 
 // Whether no session has a command under way.
 fn are_done(machines: &[Machine]) -> bool
-    ensures { (result ≡ true) ↔ AllByRecursion (λ m. present_in m ≡ None) machines.now }
+    ensures { result ≡ are_done machines.now }
 {
     let mut left = machines;
     while let Some((machine, more)) = left.split_first() {

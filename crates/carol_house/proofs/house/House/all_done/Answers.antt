@@ -1,15 +1,15 @@
-use Rattle.std.proofs.Common.{rules, ◌≡◌, ◌↔◌, ◌<◌, true, length, reverse, [], None, IfOk, ℕ, ◌+◌, ◌-◌, ◌*◌, ◌≤◌, ◌/◌, ◌%◌, Bool, false, nat_eq, nat_lt, List, ◌∷◌, ◌++◌, slice_index_or, slice_set, bit_and, bit_or, Fits, w8, w32, w64, Bor, MutBor}
-use Rattle.std.specs.List.{AllByRecursion}
-use Rattle.carol_program.specs.Rules.{rules_in}
-use Rattle.carol_program.specs.Scenes.{IsValidScene}
-use Rattle.carol_history.specs.Journals.{global, local}
+use Rattle.std.proofs.Common.{◌≡◌, true, subst, rules}
+use Rattle.std.specs.Prelude.{◌↔◌, vec_capacity}
 use Rattle.carol_history.specs.Results.{AreDone}
-use Rattle.carol_history.specs.Results.{result as result_of}
-use Rattle.carol_machine.specs.States.{present_in}
-use Rattle.carol_house.specs.House.{HasPlanned, IsHistory, UpholdsAll, rules_of}
-use Rattle.carol_house.specs.Moves.{HasCommand}
+use Rattle.carol_house.specs.House.{House, house_of}
+use Rattle.carol_house.specs.Kept.{are_done}
+use Rattle.carol_house.proofs.Readers.{done_is}
 use Rattle.carol_house.proofs.house.House.all_done.Goals as goal
 
--- src/house.rt:91:5
 pub returns : goal.returns
-returns c = ?
+returns c =
+    let s = c.self.inside
+    in let h : House = house_of s.accepted s.scene s.events.items s.spare
+    in let same : c.are_done.result ≡ are_done s.tables.machines.items = search rules
+    in subst (λ (x : House). (c.are_done.result ≡ true) ↔ AreDone x.scene x.history) c.self.view_is
+    (rw same (done_is h s.tables (vec_capacity s.events) c.self.invariant (c.history_laws.ensures.done h.scene h.history)))
