@@ -12,3 +12,5 @@ mod Room
 mod Readers
 mod Moving
 mod Starting
+mod Sames
+mod Admitting

@@ -136,7 +136,7 @@ fn is_query(event: &Event, session: u32, guard: u32, store: &Store) -> bool
             session: s,
             guard: g,
             store: x,
-        } => *s == session && *g == guard && x.values() == store.values(),
+        } => *s == session && *g == guard && is_store(x, store),
         _ => false,
     }
 }
@@ -150,7 +150,7 @@ fn is_issue(event: &Event, session: u32, entry: u32, effect: &AtomList) -> bool
             session: s,
             entry: i,
             effect: e,
-        } => *s == session && *i == entry && e.as_slice() == effect.as_slice(),
+        } => *s == session && *i == entry && is_effect(e, effect),
         _ => false,
     }
 }
@@ -189,4 +189,18 @@ fn is_refusal(event: &Event, session: u32, cause: Cause) -> bool
         } => *s == session && *c == cause,
         _ => false,
     }
+}
+
+// Whether the stores are equal.
+fn is_store(one: &Store, other: &Store) -> bool
+    ensures { (result ≡ true) ↔ (one.now ≡ other.now) }
+{
+    one.values() == other.values()
+}
+
+// Whether the atoms are equal.
+fn is_effect(one: &AtomList, other: &AtomList) -> bool
+    ensures { (result ≡ true) ↔ (one.now ≡ other.now) }
+{
+    one.as_slice() == other.as_slice()
 }
