@@ -1,20 +1,19 @@
 -- What a house keeps of its entries and links, after each kind of event.
-use Rattle.std.proofs.Common.{◌≡◌, ◌≢◌, ℕ, ◌<◌, ◌≤◌, Bool, true, false, cond, eqb, ◌&&◌, ◌||◌, List, [], ◌∷◌, ◌++◌, length, get_or, refl, sym, subst, ◌∙◌, ap, inl, inr, arith, length-append}
+use Rattle.std.proofs.Common.{◌≡◌, ℕ, ◌<◌, ◌≤◌, Bool, true, false, cond, eqb, ◌&&◌, ◌||◌, List, [], ◌∷◌, length, refl, sym, subst, ◌∙◌, ap, inl, inr, arith, length-append}
 use Rattle.std.specs.Prelude.{Some, slice_get}
 use Rattle.std.proofs.lemmas.Bool.{or_right}
 use Rattle.carol_store.specs.declared.effect.Atom.{Atom}
-use Rattle.carol_store.specs.Stores.{apply}
 use Rattle.carol_program.specs.Limits.{most_replicas}
 use Rattle.carol_program.specs.Rules.{Rules}
 use Rattle.carol_program.specs.declared.scenes.Scene.{Scene}
 use Rattle.carol_program.specs.declared.scenes.SessionPlan.{SessionPlan}
 use Rattle.carol_event.specs.declared.event.Event.{Event}
-use Rattle.carol_event.specs.declared.event.Event.TheVariants.{Issue, Deliver, Cut, Join}
-use Rattle.carol_history.specs.Journals.{effect_at, is_at, is_held, journal, local}
+use Rattle.carol_event.specs.declared.event.Event.TheVariants.{Issue, Deliver}
+use Rattle.carol_history.specs.Journals.{effect_at, is_at, is_held, journal}
 use Rattle.carol_history.specs.Legal.{Admits, IsSettled}
-use Rattle.carol_history.specs.Links.{is_joined, is_pair}
-use Rattle.carol_holding.specs.Held.{Adds, Holding, holds}
-use Rattle.carol_replica.specs.Stored.{Changes, Replicas, local_at}
+use Rattle.carol_history.specs.Links.{is_pair}
+use Rattle.carol_holding.specs.Held.{Adds, Holding}
+use Rattle.carol_replica.specs.Stored.{Changes, Replicas}
 use Rattle.carol_house.specs.Kept.{AreJoined, AreLocals, AreSettled, IsHolding, are_joined, settled_below}
 use Rattle.carol_house.specs.Moves.{link_event}
 use Rattle.carol_house.proofs.Lists.{get_or-push_left}

@@ -1,5 +1,5 @@
 -- The tables after each kind of event.
-use Rattle.std.proofs.Common.{◌≡◌, ℕ, ◌<◌, Bool, true, false, cond, eqb, List, [], ◌∷◌, ◌++◌, length, ℤ, refl, sym, ◌∙◌, ap}
+use Rattle.std.proofs.Common.{◌≡◌, ℕ, ◌<◌, Bool, true, false, cond, eqb, List, [], ◌∷◌, ◌++◌, ℤ, refl, sym, ◌∙◌, ap}
 use Rattle.std.proofs.Math.ListN.{length-set}
 use Rattle.std.specs.Prelude.{Some, not, ◌&&◌, slice_get}
 use Rattle.std.specs.Vec.{with_item}
@@ -22,7 +22,7 @@ use Rattle.carol_history.specs.Links.{is_pair}
 use Rattle.carol_holding.specs.Held.{Adds, Holding}
 use Rattle.carol_replica.specs.Entries.{Journal}
 use Rattle.carol_replica.specs.Stored.{Changes, Replicas}
-use Rattle.carol_grant.specs.Grants.{Closes, Grants, GrantsOne, is_granted}
+use Rattle.carol_grant.specs.Grants.{Closes, Grants, GrantsOne}
 use Rattle.carol_machine.specs.States.{SessionState}
 use Rattle.carol_house.specs.declared.tables.Tables.{Tables}
 use Rattle.carol_house.specs.Kept.{AreGrants, AreTables, are_joined}

@@ -1,6 +1,6 @@
 -- The one event that a session is to go on with, by what it wishes for.
-use Rattle.std.proofs.Common.{◌≡◌, ◌≢◌, ℕ, ◌<◌, true, false, List, length, refl, sym, subst, ◌∙◌, ap}
-use Rattle.std.specs.Prelude.{Option, Some, None, slice_get}
+use Rattle.std.proofs.Common.{◌≡◌, ℕ, true, false, List, length, refl, sym, subst, ◌∙◌, ap}
+use Rattle.std.specs.Prelude.{None}
 use Rattle.std.proofs.lemmas.Option.{same_Some}
 use Rattle.carol_store.specs.declared.effect.Atom.{Atom}
 use Rattle.carol_store.specs.Kinds.{CellValue}
@@ -12,7 +12,7 @@ use Rattle.carol_reading.specs.Marks.{Asked, Issued}
 use Rattle.carol_event.specs.declared.event.Cause.TheVariants.{Barred, Behind}
 use Rattle.carol_event.specs.declared.event.Event.{Event}
 use Rattle.carol_event.specs.declared.event.Event.TheVariants.{Grant, Query, Issue, Refuse, Deliver}
-use Rattle.carol_history.specs.Acts.{Next, UnderWay, is_live}
+use Rattle.carol_history.specs.Acts.{Next, UnderWay}
 use Rattle.carol_history.specs.Forced.{Forced}
 use Rattle.carol_history.specs.Journals.{is_held, journal, local}
 use Rattle.carol_history.specs.Legal.{IsFree, IsSettled, Lacks}
@@ -38,14 +38,17 @@ module _ (p : Rules) (scene : Scene) (session : ℕ) (past : List Event) where
   issue_forced entry effect goes number free = (refl, record { next = goes.next (Issued effect) refl; number = number; free = free })
 
   pub barred_forced : (holder guard : ℕ) (effect : List Atom) → GoesOnWith p scene session (wish.Issue effect) past → IsBarredBy p session effect holder guard past → Forced p scene session (Refuse session (Barred holder guard)) past
-  barred_forced holder guard effect goes bar = (refl, record {
-    effect = effect;
-    next = goes.next (Issued effect) refl;
-    other = bar.other;
-    live = bar.live;
-    barring = bar.barring;
-    lowest = bar.lowest;
-  })
+  barred_forced holder guard effect goes bar = (
+    refl,
+    record {
+      effect = effect;
+      next = goes.next (Issued effect) refl;
+      other = bar.other;
+      live = bar.live;
+      barring = bar.barring;
+      lowest = bar.lowest;
+    },
+  )
 
   module _ (guard replica : ℕ) (goes : GoesOnWith p scene session (wish.Guard guard) past) (home : IsHome scene session replica) where
     next : Next p scene session (Asked guard p.initial) past
@@ -55,13 +58,16 @@ module _ (p : Rules) (scene : Scene) (session : ℕ) (past : List Event) where
     here = home_is replica home next.way
 
     pub grant_forced : IsFirstOutside p scene replica guard None past → Forced p scene session (Grant session guard) past
-    grant_forced settled = (refl, record {
-      store = p.initial;
-      next = next;
-      named = goes.fit.0;
-      fresh = goes.fit.1;
-      settled = λ entry inside. subst (λ (r : ℕ). IsSettled p scene r guard entry past) here (settled entry inside);
-    })
+    grant_forced settled = (
+      refl,
+      record {
+        store = p.initial;
+        next = next;
+        named = goes.fit.0;
+        fresh = goes.fit.1;
+        settled = λ entry inside. subst (λ (r : ℕ). IsSettled p scene r guard entry past) here (settled entry inside);
+      },
+    )
 
     module _ (entry : ℕ) (outside : IsOutside p scene replica guard entry past) where
       lacks : Lacks p scene session entry past
@@ -90,7 +96,10 @@ module _ (p : Rules) (scene : Scene) (session : ℕ) (past : List Event) where
 
       pub behind_forced : IsHolder scene replica entry None past → Forced p scene session (Refuse session (Behind entry)) past
       unfolding lacks
-      behind_forced nowhere = (refl, record {
-        missing = lacks;
-        nowhere = λ r inside. subst (λ (x : ℕ). is_linked r x past ≡ true → is_held scene.sessions r entry past ≡ false) here (nowhere r inside);
-      })
+      behind_forced nowhere = (
+        refl,
+        record {
+          missing = lacks;
+          nowhere = λ r inside. subst (λ (x : ℕ). is_linked r x past ≡ true → is_held scene.sessions r entry past ≡ false) here (nowhere r inside);
+        },
+      )

@@ -1,10 +1,10 @@
 -- Which entries a replica lacks that a guard does not admit.
-use Rattle.std.proofs.Common.{◌≡◌, ◌≢◌, ℕ, zero, suc, ◌<◌, ◌≤◌, Bool, true, false, cond, eqb, ◌&&◌, ◌||◌, max, List, [], length, get_or, refl, sym, subst, ◌∙◌, inl, inr, arith}
-use Rattle.std.specs.Prelude.{◌↔◌, ◌⊎◌, Some, None}
-use Rattle.std.proofs.lemmas.Bool.{and_parts, cases_Bool, cases_lt, eqb-true, or_cases, or_parts}
+use Rattle.std.proofs.Common.{◌≡◌, ◌≢◌, ℕ, zero, suc, ◌<◌, ◌≤◌, Bool, true, false, cond, eqb, ◌&&◌, max, List, [], length, get_or, refl, sym, subst, ◌∙◌, inl, inr, arith}
+use Rattle.std.specs.Prelude.{◌↔◌, ◌⊎◌, None}
+use Rattle.std.proofs.lemmas.Bool.{and_parts, cases_lt, eqb-true, or_cases, or_parts}
 use Rattle.carol_program.specs.Admitting.{admits}
 use Rattle.carol_program.specs.Limits.{most_guards, most_replicas}
-use Rattle.carol_history.specs.Journals.{effect_at, is_held, journal}
+use Rattle.carol_history.specs.Journals.{effect_at, journal}
 use Rattle.carol_history.specs.Laws.{HeldAreEntries}
 use Rattle.carol_history.specs.Legal.{Admits, IsSettled}
 use Rattle.carol_simulation.specs.Upheld.{TableDecides}

@@ -1,22 +1,20 @@
 -- What a house tells of its history.
-use Rattle.std.proofs.Common.{◌≡◌, ℕ, suc, ◌<◌, ◌≤◌, Bool, true, false, ltb, cond, List, [], ◌∷◌, ◌++◌, length, take, drop, get_or, refl, sym, subst, ◌∙◌, inl, inr, arith, length-append}
-use Rattle.std.specs.Prelude.{◌↔◌, ◌⊎◌, Option, Some, None, not, slice_get}
+use Rattle.std.proofs.Common.{◌≡◌, ℕ, suc, ◌<◌, Bool, true, false, ltb, List, [], ◌∷◌, ◌++◌, length, take, drop, get_or, refl, sym, ◌∙◌, inl, inr, arith}
+use Rattle.std.specs.Prelude.{◌↔◌, Option, Some, None, not, slice_get}
 use Rattle.std.specs.List.{AllByRecursion}
 use Rattle.std.specs.Option.{is_some}
-use Rattle.std.proofs.lemmas.Bool.{and_from, and_parts, cases_Bool, le-ltb, lt-ltb}
+use Rattle.std.proofs.lemmas.Bool.{and_from, and_parts, le-ltb, lt-ltb}
 use Rattle.std.proofs.lemmas.List.{take-append-drop}
 use Rattle.std.proofs.lemmas.Option.{same_Some, slice_get_cases, slice_get_within}
 use Rattle.carol_program.specs.declared.scenes.Scene.{Scene}
 use Rattle.carol_program.specs.declared.scenes.SessionPlan.{SessionPlan}
 use Rattle.carol_event.specs.declared.event.Event.{Event}
-use Rattle.carol_history.specs.declared.outcome.Outcome.{Outcome}
 use Rattle.carol_history.specs.declared.outcome.Outcome.TheVariants as outcome
-use Rattle.carol_history.specs.Acts.{UnderWay, acts, place}
+use Rattle.carol_history.specs.Acts.{UnderWay, acts}
 use Rattle.carol_history.specs.Laws.{DoneIsNoneUnderWay}
-use Rattle.carol_history.specs.Results.{AreDone, outcomes, result}
-use Rattle.carol_history.specs.Runs.{Run}
+use Rattle.carol_history.specs.Results.{AreDone, result}
 use Rattle.carol_history.proofs.Actors.{at_place, is_there}
-use Rattle.carol_simulation.specs.Upheld.{RunsUphold, Upheld}
+use Rattle.carol_simulation.specs.Upheld.{RunsUphold}
 use Rattle.carol_machine.specs.States.{SessionState, present_in}
 use Rattle.carol_house.specs.declared.tables.Tables.{Tables}
 use Rattle.carol_house.specs.House.{HasCommandIn, HasPlanned, House, UpholdsAll, rules_of}

@@ -1,5 +1,5 @@
 -- A house with room for more events.
-use Rattle.std.proofs.Common.{◌≡◌, ℕ, ◌+◌, ◌≤◌, List, length, reverse, refl}
+use Rattle.std.proofs.Common.{◌≡◌, ℕ, List, reverse}
 use Rattle.carol_program.specs.declared.scenes.Scene.{Scene}
 use Rattle.carol_reading.specs.Kept.{Kept}
 use Rattle.carol_event.specs.declared.event.Event.{Event}

@@ -1,5 +1,5 @@
 -- Equal lists of atoms, compared one by one.
-use Rattle.std.proofs.Common.{◌≡◌, Bool, true, eqb, ◌&&◌, List, refl, ap}
+use Rattle.std.proofs.Common.{◌≡◌, Bool, eqb, ◌&&◌, List, ap}
 use Rattle.std.specs.Ordering.{int_eq}
 use Rattle.std.specs.Bool.{Decides}
 use Rattle.std.proofs.lemmas.Bool.{and_from, and_parts, eq-eqb, eqb-true}

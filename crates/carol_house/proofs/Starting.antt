@@ -1,10 +1,9 @@
 -- The tables of a history without events.
-use Rattle.std.proofs.Common.{◌≡◌, ℕ, ◌<◌, ◌≤◌, true, false, Bool, List, [], ◌∷◌, length, map, replicate, get_or, refl, sym, subst, ◌∙◌, ap, arith}
+use Rattle.std.proofs.Common.{◌≡◌, ℕ, ◌<◌, true, false, List, [], length, map, refl, sym, subst, ◌∙◌, ap, arith}
 use Rattle.std.specs.Prelude.{Option, Some, None, slice_get}
 use Rattle.std.specs.Option.{option_map}
 use Rattle.std.proofs.lemmas.List.{length-map}
 use Rattle.std.proofs.lemmas.Option.{same_Some, slice_get-map}
-use Rattle.carol_store.specs.Kinds.{CellValue}
 use Rattle.carol_program.specs.Accords.{Accords}
 use Rattle.carol_program.specs.Limits.{most_guards, most_replicas}
 use Rattle.carol_program.specs.Rules.{Rules}

@@ -1,5 +1,5 @@
 -- What a session goes on with, read off its machine, and what bars its effect.
-use Rattle.std.proofs.Common.{◌≡◌, ◌≢◌, ℕ, ◌<◌, true, false, List, length, refl, sym, subst, ◌∙◌}
+use Rattle.std.proofs.Common.{◌≡◌, ℕ, true, false, List, sym, subst, ◌∙◌}
 use Rattle.std.specs.Prelude.{◌↔◌, Option, Some, None, slice_get}
 use Rattle.std.proofs.lemmas.Option.{same_Some}
 use Rattle.carol_store.specs.declared.effect.Atom.{Atom}
@@ -9,7 +9,6 @@ use Rattle.carol_program.specs.Rules.{Rules, OpRules}
 use Rattle.carol_program.specs.Variables.{number_of_args}
 use Rattle.carol_program.specs.declared.scenes.Command.{Command}
 use Rattle.carol_program.specs.declared.scenes.Scene.{Scene}
-use Rattle.carol_reading.specs.Marks.{Mark}
 use Rattle.carol_reading.specs.Readings.{Reads}
 use Rattle.carol_event.specs.declared.event.Event.{Event}
 use Rattle.carol_history.specs.Acts.{UnderWay, acts, attempt, is_live, marks, place}
@@ -21,7 +20,7 @@ use Rattle.carol_grant.specs.Grants.{IsBarredBy}
 use Rattle.carol_machine.specs.declared.wish.Wish.{Wish}
 use Rattle.carol_machine.specs.declared.wish.Wish.TheVariants as wish
 use Rattle.carol_machine.specs.States.{SessionState}
-use Rattle.carol_machine.specs.Wishes.{IsNextWish, IsUnder, IsWishOf, ReadsSoFar, StandsWell}
+use Rattle.carol_machine.specs.Wishes.{IsNextWish, IsWishOf, ReadsSoFar, StandsWell}
 use Rattle.carol_house.specs.declared.tables.Tables.{Tables}
 use Rattle.carol_house.specs.House.{House, rules_of}
 use Rattle.carol_house.specs.Kept.{IsKept, IsMachineOf}

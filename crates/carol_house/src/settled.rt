@@ -6,6 +6,7 @@ use std::marker::Model;
 
 // How many replicas and guards there are at most.
 const MOST_REPLICAS: usize = 8;
+
 const MOST_GUARDS: usize = 16;
 
 /// For each replica and guard an entry below which all are held or admitted. Contracts see it as a

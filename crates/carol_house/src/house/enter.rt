@@ -167,7 +167,9 @@ impl House {
         store_laws();
         self.tables.holding.add(target, entry);
         let shape = &self.accepted.program().shape;
-        self.tables.replicas.arrive(shape, target, self.tables.journal.entry(entry));
+        self.tables
+            .replicas
+            .arrive(shape, target, self.tables.journal.entry(entry));
         self.events.push_reserved(Event::Deliver {
             source,
             target,

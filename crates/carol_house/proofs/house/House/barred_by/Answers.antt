@@ -1,4 +1,4 @@
-use Rattle.std.proofs.Common.{◌≡◌, ℕ, ◌<◌, length, refl, sym, subst}
+use Rattle.std.proofs.Common.{refl, subst}
 use Rattle.std.specs.Prelude.{vec_capacity}
 use Rattle.carol_reading.specs.Marks.{Issued}
 use Rattle.carol_history.proofs.Actors.{is_there}

@@ -1,8 +1,6 @@
-use Rattle.std.proofs.Common.{◌≡◌, ℕ, ◌<◌, ◌≤◌, List, length, refl, sym, ◌∙◌, arith, rules}
+use Rattle.std.proofs.Common.{◌<◌, length, ◌∙◌, arith}
 use Rattle.std.specs.Prelude.{vec_capacity}
-use Rattle.carol_store.specs.Effects.{IsEffect}
 use Rattle.carol_event.specs.declared.event.Event.TheVariants.{Deliver}
-use Rattle.carol_history.specs.Journals.{effect_at, journal}
 use Rattle.carol_house.specs.House.{House, house_of, rules_of}
 use Rattle.carol_house.proofs.Arriving.{delivered_effect, delivered_fits, delivered_inside, few_entries, stays_there, store_there}
 use Rattle.carol_house.proofs.Entering.{kept_after}

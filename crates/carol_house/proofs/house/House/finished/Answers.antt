@@ -1,5 +1,5 @@
-use Rattle.std.proofs.Common.{◌≡◌, ℕ, ◌<◌, true, length, refl, sym, subst, ◌∙◌}
-use Rattle.std.specs.Prelude.{◌↔◌, None, Some, slice_get}
+use Rattle.std.proofs.Common.{◌≡◌, ◌<◌, true, length, refl, sym, subst, ◌∙◌}
+use Rattle.std.specs.Prelude.{◌↔◌, Some, slice_get}
 use Rattle.std.proofs.lemmas.Option.{slice_get_read}
 use Rattle.carol_house.specs.House.{House, house_of}
 use Rattle.carol_house.specs.Moves.{HasCommand}

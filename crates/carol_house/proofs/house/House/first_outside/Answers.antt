@@ -1,4 +1,4 @@
-use Rattle.std.proofs.Common.{◌≡◌, ◌≢◌, ℕ, ◌<◌, ◌≤◌, true, max, List, length, subst, arith, rules}
+use Rattle.std.proofs.Common.{◌≡◌, ◌≢◌, max, length, subst, rules}
 use Rattle.std.specs.Prelude.{vec_capacity, None}
 use Rattle.carol_house.specs.House.{House, house_of, rules_of}
 use Rattle.carol_house.specs.Kept.{settled_below}

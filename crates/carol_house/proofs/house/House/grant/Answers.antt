@@ -1,4 +1,4 @@
-use Rattle.std.proofs.Common.{◌≡◌, ◌<◌, ◌≤◌, length, refl, arith}
+use Rattle.std.proofs.Common.{refl, arith}
 use Rattle.std.specs.Prelude.{vec_capacity}
 use Rattle.carol_event.specs.declared.event.Event.TheVariants.{Grant}
 use Rattle.carol_history.specs.Acts.{Granted}

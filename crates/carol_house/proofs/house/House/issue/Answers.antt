@@ -1,10 +1,7 @@
-use Rattle.std.proofs.Common.{◌≡◌, ℕ, ◌<◌, ◌≤◌, List, length, refl, sym, subst, ◌∙◌, arith, rules}
+use Rattle.std.proofs.Common.{◌≡◌, length, ◌∙◌, arith, rules}
 use Rattle.std.specs.Prelude.{vec_capacity, Some, slice_get}
 use Rattle.std.specs.Vec.{vec_len}
-use Rattle.std.proofs.lemmas.Option.{same_Some, slice_get_within}
-use Rattle.carol_store.specs.declared.effect.Atom.{Atom}
 use Rattle.carol_store.specs.Effects.{IsEffect}
-use Rattle.carol_program.specs.declared.scenes.SessionPlan.{SessionPlan}
 use Rattle.carol_reading.specs.Marks.{Issued}
 use Rattle.carol_event.specs.declared.event.Event.TheVariants.{Issue}
 use Rattle.carol_history.specs.Acts.{Did}

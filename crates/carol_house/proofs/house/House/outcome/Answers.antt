@@ -1,8 +1,6 @@
-use Rattle.std.proofs.Common.{◌≡◌, ℕ, ◌<◌, length, refl, sym, subst, ◌∙◌, rules}
+use Rattle.std.proofs.Common.{◌≡◌, length, refl, sym, subst, ◌∙◌}
 use Rattle.std.specs.Prelude.{Some, slice_get}
-use Rattle.std.specs.Vec.{vec_len}
 use Rattle.std.proofs.lemmas.Option.{slice_get_read}
-use Rattle.carol_history.specs.Acts.{acts}
 use Rattle.carol_house.specs.House.{HasPlanned, House, house_of}
 use Rattle.carol_house.proofs.Readers.{outcome_here, planned_here, planned_there}
 use Rattle.carol_house.proofs.house.House.outcome.Goals as goal

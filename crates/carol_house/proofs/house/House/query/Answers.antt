@@ -1,4 +1,4 @@
-use Rattle.std.proofs.Common.{◌≡◌, ◌<◌, ◌≤◌, length, refl, sym, ◌∙◌, arith}
+use Rattle.std.proofs.Common.{◌≡◌, sym, arith}
 use Rattle.std.specs.Prelude.{vec_capacity, Some, slice_get}
 use Rattle.carol_reading.specs.Marks.{Asked}
 use Rattle.carol_event.specs.declared.event.Event.TheVariants.{Query}

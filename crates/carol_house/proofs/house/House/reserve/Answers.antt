@@ -1,8 +1,7 @@
-use Rattle.std.proofs.Common.{◌≡◌, ℕ, ◌+◌, ◌≤◌, List, length, reverse, refl, arith, rules}
+use Rattle.std.proofs.Common.{◌≡◌, length, reverse, refl, arith, rules}
 use Rattle.std.specs.Prelude.{vec_capacity}
 use Rattle.std.specs.Vec.{vec_len}
 use Rattle.std.proofs.lemmas.List.{length-reverse}
-use Rattle.carol_event.specs.declared.event.Event.{Event}
 use Rattle.carol_house.proofs.Room.{kept_room}
 use Rattle.carol_house.proofs.house.House.reserve.Goals as goal
 

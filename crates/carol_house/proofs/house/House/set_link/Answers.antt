@@ -1,4 +1,4 @@
-use Rattle.std.proofs.Common.{◌≡◌, ◌<◌, ◌≤◌, length, refl, sym, subst, arith}
+use Rattle.std.proofs.Common.{sym, subst, arith}
 use Rattle.std.specs.Prelude.{vec_capacity}
 use Rattle.carol_history.specs.Legal.{Legal}
 use Rattle.carol_house.specs.House.{House, house_of, rules_of}

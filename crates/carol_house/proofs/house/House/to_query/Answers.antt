@@ -1,5 +1,4 @@
 use Rattle.std.proofs.Common.{refl}
-use Rattle.carol_store.specs.Stores.{IsStore}
 use Rattle.carol_reading.specs.Marks.{Asked}
 use Rattle.carol_history.proofs.Actors.{is_there}
 use Rattle.carol_house.specs.House.{rules_of}

@@ -1,4 +1,4 @@
-use Rattle.std.proofs.Common.{◌≡◌, ℕ, ◌<◌, length, refl, subst}
+use Rattle.std.proofs.Common.{◌≡◌, ◌<◌, length, refl, subst}
 use Rattle.std.specs.Prelude.{vec_capacity, Some, slice_get}
 use Rattle.std.proofs.lemmas.Option.{slice_get_read}
 use Rattle.carol_history.specs.Acts.{acts}

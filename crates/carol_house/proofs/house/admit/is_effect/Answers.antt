@@ -1,4 +1,4 @@
-use Rattle.std.proofs.Common.{◌≡◌, true}
+use Rattle.std.proofs.Common.{◌≡◌}
 use lib.Pointwise.{pointwise}
 use Rattle.carol_house.proofs.Sames.{atoms_decide, same_atom}
 use Rattle.carol_house.proofs.house.admit.is_effect.Goals as goal

@@ -1,4 +1,3 @@
-use Rattle.std.proofs.Common.{◌≡◌, true, ◌∙◌, sym}
 use Rattle.std.specs.Cmp.Rules.{signed_items}
 use Rattle.carol_house.proofs.house.admit.is_store.Goals as goal
 

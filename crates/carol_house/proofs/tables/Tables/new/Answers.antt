@@ -1,6 +1,5 @@
-use Rattle.std.proofs.Common.{◌≡◌, ℕ, ◌<◌, List, length, rules, ◌∙◌}
+use Rattle.std.proofs.Common.{rules, ◌∙◌}
 use Rattle.carol_program.specs.Rules.{rules_in}
-use Rattle.carol_replica.specs.Stored.{local_at}
 use Rattle.carol_house.proofs.Starting.{tables_start}
 use Rattle.carol_house.proofs.tables.Tables.new.Goals as goal
 
