@@ -77,8 +77,8 @@ abbrev pub is_settled : Tables → Accords → ℕ → ℕ → ℕ → Bool
 is_settled t accords replica guard entry = holds t.holding replica entry
     || admits accords guard (get_or t.journal.entries entry [])
 
--- the lowest such entry from this one on that they don't say so of; where there is none, the number of
--- entries
+-- the lowest such entry from this one on that they don't say so of; where there is none, the number
+-- of entries
 pub record IsFirstUnsettled
     (t : Tables) (accords : Accords) (replica guard start found : ℕ) : Type 0 where
   pub from : start ≤ found

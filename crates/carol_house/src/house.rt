@@ -21,9 +21,9 @@ mod enter;
 mod moves;
 mod next;
 
-/// An accepted program in a scene, with its history so far. Contracts see it as the program with its
-/// accords, the scene, the history, the latest event first, and for how many more events there is
-/// room.
+/// An accepted program in a scene, with its history so far. Contracts see it as the program with
+/// its accords, the scene, the history, the latest event first, and for how many more events there
+/// is room.
 #[derive(Drop)]
 pub struct House {
     accepted: Accepted,
@@ -73,10 +73,10 @@ impl House {
         })
     }
 
-    /// The events so far, in order, at most 131,072: a history that the program can make in the scene.
-    /// Up to each of its events, each live query stands in its guard's relation to the global store,
-    /// the invariant is true of it, the history is that of one store read in order, replicas that hold
-    /// the same entries are equal, and no session meets a fault.
+    /// The events so far, in order, at most 131,072: a history that the program can make in the
+    /// scene. Up to each of its events, each live query stands in its guard's relation to the
+    /// global store, the invariant is true of it, the history is that of one store read in order,
+    /// replicas that hold the same entries are equal, and no session meets a fault.
     pub fn history(&self) -> &[Event]
         ensures events { result.now ≡ reverse self.now.history }
         ensures history { IsHistory self.now }

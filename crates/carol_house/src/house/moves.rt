@@ -15,10 +15,10 @@ impl House {
     ghost use Rattle.carol_house.specs.Moves.{Admits, Advances, FailsToAdmit, FailsToAdvance};
     ghost use Rattle.carol_house.specs.Moves.{FailsToGossip, FailsToLink, Gossips, Links};
 
-    /// The session, which is in range, makes the one step that it can make: its own, or the delivery
-    /// of the lowest entry that it waits for. `Finished` is answered exactly where all its commands
-    /// are done; else `Full` exactly where the history has 131,072 events. `NoMemory` comes only
-    /// where there is no room, and leaves the history as it is.
+    /// The session, which is in range, makes the one step that it can make: its own, or the
+    /// delivery of the lowest entry that it waits for. `Finished` is answered exactly where all its
+    /// commands are done; else `Full` exactly where the history has 131,072 events. `NoMemory`
+    /// comes only where there is no room, and leaves the history as it is.
     pub fn advance(&mut self, session: u32) -> Result<Moved, HouseError>
         requires { session < length self.old.scene.sessions }
         ensures ok { IfOk result (λ moved. Advances self.old session moved self.new) }
@@ -37,9 +37,9 @@ impl House {
 
     /// Delivers the lowest entry that the replica `from` holds and `to` lacks. `CutOff` is answered
     /// exactly where the two are not linked; else `NothingNew` exactly where `to` holds all that
-    /// `from` holds; else `Full` exactly where the history has 131,072 events. They are two different
-    /// replicas of the scene. `NoMemory` comes only where there is no room, and leaves the history as
-    /// it is.
+    /// `from` holds; else `Full` exactly where the history has 131,072 events. They are two
+    /// different replicas of the scene. `NoMemory` comes only where there is no room, and leaves
+    /// the history as it is.
     pub fn gossip(&mut self, from: u32, to: u32) -> Result<Gossip, HouseError>
         requires { MayLink self.old.scene from to }
         ensures ok { IfOk result (λ gossip. Gossips self.old from to gossip self.new) }
@@ -57,8 +57,8 @@ impl House {
     }
 
     /// Joins two different replicas of the scene, or cuts them off from each other where `up` is
-    /// false. `Full` is answered exactly where the history has 131,072 events. `NoMemory` comes only
-    /// where there is no room, and leaves the history as it is.
+    /// false. `Full` is answered exactly where the history has 131,072 events. `NoMemory` comes
+    /// only where there is no room, and leaves the history as it is.
     pub fn link(&mut self, a: u32, b: u32, up: bool) -> Result<(), HouseError>
         requires { MayLink self.old.scene a b }
         ensures ok { OnOk result (Links self.old a b up self.new) }
@@ -69,9 +69,9 @@ impl House {
         Ok(())
     }
 
-    /// Enters the event. `Illegal` is answered exactly where it may not come next; else `Full` exactly
-    /// where the history has 131,072 events. `NoMemory` comes only where there is no room, and leaves
-    /// the history as it is.
+    /// Enters the event. `Illegal` is answered exactly where it may not come next; else `Full`
+    /// exactly where the history has 131,072 events. `NoMemory` comes only where there is no room,
+    /// and leaves the history as it is.
     pub fn admit(&mut self, event: &Event) -> Result<Admitted, HouseError>
         ensures ok { IfOk result (λ done. Admits self.old event.now done self.new) }
         ensures err { IfErr result (λ error. FailsToAdmit self.old event.now error self.new) }

@@ -191,8 +191,8 @@ impl House {
     }
 }
 
-// The lowest entry from this one on that the replica does not hold and the guard does not admit; their
-// number where there is none.
+// The lowest entry from this one on that the replica does not hold and the guard does not admit;
+// the number of entries where there is none.
 fn first_unsettled(
     tables: &Tables,
     accepted: &Accepted,
