@@ -2,12 +2,14 @@
 #![tactic(auto)]
 
 mod call;
+mod check;
 mod command;
 mod reply;
 mod status;
 mod step;
 #[cfg(test)]
 mod tests;
+mod told;
 
 pub use call::{carol, plain};
 pub use status::{Status, number};
