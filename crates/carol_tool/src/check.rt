@@ -98,7 +98,8 @@ fn verdict_status(refused: &Refused) -> Status
     ensures { result ≡ verdict_status refused.now }
 {
     match refused {
-        Refused::InitialFails(_) | Refused::NotReflexive(..) | Refused::Fails(..) => Status::Refused,
+        Refused::InitialFails(_) | Refused::NotReflexive(..) | Refused::Fails(..) =>
+            Status::Refused,
         Refused::Undecided(..) => Status::Undecided,
         Refused::NoMemory => Status::NoMemory,
     }

@@ -3,6 +3,8 @@
 
 mod call;
 mod check;
+#[cfg(test)]
+mod check_tests;
 mod command;
 mod reply;
 mod status;
