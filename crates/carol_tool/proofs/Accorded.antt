@@ -89,7 +89,7 @@ cells_same : (names : Names) (t u : Accords) (guard first : ℕ) (kinds : List C
 cells_same names t u guard first [] h = refl
 cells_same names t u guard first (kind ∷ kinds) h =
     let at : (i n : ℕ) → first + i ≡ n → (up : Bool) → HasWay (kind ∷ kinds) i up → TellSame t u guard n up
-        = λ i n e up way. subst (λ m. TellSame t u guard m up) e (h i up way) in
+    = λ i n e up way. subst (λ m. TellSame t u guard m up) e (h i up way) in
     let one = cell_same names t u guard first kind (λ up way. at zero first (omega arith) up way) in
     let more = cells_same names t u guard (first + 1) kinds (λ i up way. at (suc i) (first + 1 + i) (omega arith) up way) in
     ap (λ w. w ++ cells_text names t guard (first + 1) kinds) one ∙ ap (λ w. cell_text names u guard first kind ++ w) more
@@ -100,7 +100,7 @@ guards_same : (names : Names) (t u : Accords) (kinds : List CellKind) (count fir
 guards_same names t u kinds zero first h = refl
 guards_same names t u kinds (suc count) first h =
     let at : (i n : ℕ) → i < suc count → first + i ≡ n → cells_text names t n 0 kinds ≡ cells_text names u n 0 kinds
-        = λ i n low e. subst (λ m. cells_text names t m 0 kinds ≡ cells_text names u m 0 kinds) e (h i low) in
+    = λ i n low e. subst (λ m. cells_text names t m 0 kinds ≡ cells_text names u m 0 kinds) e (h i low) in
     let one = ap (λ w. (codes "guard " ++ (decimal first ++ (codes " " ++ (name_at names.guards first ++ line_feed)))) ++ w) (at zero first (omega arith) (omega arith)) in
     let more = guards_same names t u kinds count (first + 1) (λ i low. at (suc i) (first + 1 + i) (omega arith) (omega arith)) in
     ap (λ w. w ++ guards_text names t kinds count (first + 1)) one ∙ ap (λ w. guard_text names u kinds first ++ w) more
@@ -128,7 +128,7 @@ told_same names t u p h g = ap (λ w. (codes "accepted" ++ line_feed) ++ (w ++ (
     guard i low =
         let is = claim_at i low in
         let same : cells_text names t i 0 p.shape ≡ cells_text names u i 0 p.shape
-            = cells_same names t u i 0 p.shape (λ cell up way. subst (λ m. TellSame t u i m up) (omega arith) (entry_same p.shape p.guards t u h g i is.0 cell up is.1 way)) in
+        = cells_same names t u i 0 p.shape (λ cell up way. subst (λ m. TellSame t u i m up) (omega arith) (entry_same p.shape p.guards t u h g i is.0 cell up is.1 way)) in
         subst (λ m. cells_text names t m 0 p.shape ≡ cells_text names u m 0 p.shape) (omega arith) same
 
 -- of programs with the same rules and names

@@ -1,6 +1,6 @@
 -- That a reply of `check` is an answer to the bytes, and all their answers agree.
 use Rattle.std.proofs.Common.{◌≡◌, List, ℕ, [], refl, sym, ◌∙◌, ap, subst, inl, inr}
-use Rattle.std.specs.Prelude.{◌≢◌, Some, Result, Ok, Err, IfOk}
+use Rattle.std.specs.Prelude.{◌⊎◌, Some, None, IsSome, Result, Ok, Err, IfOk}
 use Rattle.std.specs.declared.alloc.AllocError.{AllocError}
 use Rattle.carol_accept.specs.Refusals.{HandsBack, IsFault, IsKeptAs, IsRefusedFor}
 use Rattle.carol_accept.specs.Verdicts.{HasRules}
@@ -9,7 +9,6 @@ use Rattle.carol_accept.specs.declared.refused.Refused.TheVariants.{InitialFails
 use Rattle.carol_parse.specs.Answer.{IsMeant, IsOnlyMeant}
 use Rattle.carol_parse.specs.declared.error.TextError.{TextError}
 use Rattle.carol_program.specs.declared.program.Program.{Program}
-use Rattle.carol_program.specs.Accords.{IsTable}
 use Rattle.carol_program.specs.Preserving.{IsRight}
 use Rattle.carol_program.specs.Rules.{Rules, rules_in}
 use Rattle.carol_program.specs.WellFormed.{AreRules}
@@ -24,7 +23,7 @@ use Rattle.carol_resolve_meaning.specs.Programs.{names_of, program_faults, rules
 use Rattle.carol_syntax.specs.Files.{FileTree, ProgramTree}
 use Rattle.carol_syntax_meaning.specs.Outcome.{Outcome, Read, Means}
 use Rattle.carol_tool.specs.Answer.{IsOwn, IsReply}
-use Rattle.carol_tool.specs.Check.{CheckSays, IsToldAccepted, IsToldRefused, ProgramSays, TreeSays, VerdictSays, verdict_answer, verdict_status}
+use Rattle.carol_tool.specs.Check.{CheckSays, IsToldAccepted, IsToldRefused, ProgramSays, TreeSays, VerdictSays, verdict_answer}
 use Rattle.carol_tool.specs.Reply.{answer_of}
 use Rattle.carol_tool.specs.Says.{Agree, FixesStatus, FixesText}
 use Rattle.carol_tool.specs.Texts.{Answer, line_answer}
@@ -40,67 +39,67 @@ use Rattle.carol_tool.proofs.Replies.{agree_same, bytes_own, names_own}
 
 -- ---- statuses of its own alone
 
-refusal_own : (r : Refused) → HasRules r → IsOwn (verdict_status r)
-refusal_own (InitialFails program) h = tt
-refusal_own (NotReflexive program guard at) h = tt
-refusal_own (Fails program place at) h = tt
-refusal_own (Undecided program place why) h = tt
-refusal_own NoMemory h = absurd h
+answer_same : (a b : Answer) → Some a ≡ Some b → a ≡ b
+answer_same a b e = cc
+
+answer_none : (a : Answer) → None ≡ Some a → ⊥
+answer_none a e = cc
+
+refusal_own : (r : Refused) (a : Answer) → verdict_answer r ≡ Some a → IsOwn a.0
+refusal_own (InitialFails program) a e = subst (λ x. IsOwn x.0) (answer_same _ a e) tt
+refusal_own (NotReflexive program guard at) a e = subst (λ x. IsOwn x.0) (answer_same _ a e) tt
+refusal_own (Fails program place at) a e = subst (λ x. IsOwn x.0) (answer_same _ a e) tt
+refusal_own (Undecided program place why) a e = subst (λ x. IsOwn x.0) (answer_same _ a e) tt
+refusal_own NoMemory a e = absurd (answer_none a e)
 
 verdict_own : (program : Program) (answer : Answer) → VerdictSays program answer → IsOwn answer.0
 verdict_own program answer (inl h) = subst (λ a. IsOwn a.0) (sym h.told) tt
-verdict_own program answer (inr h) = subst (λ a. IsOwn a.0) (sym h.told) (refusal_own h.refused h.rules)
+verdict_own program answer (inr h) = refusal_own h.refused answer h.told
 
 tree_own : (tree : ProgramTree) (answer : Answer) → TreeSays tree answer → IsOwn answer.0
 tree_own tree = names_own (ProgramSays tree) (λ answer h. verdict_own h.program answer h.verdict) tree
 
 -- ---- answers agree
 
--- a refusal that fixes the status is a fault
-fixed_fault : (r : Refused) → HasRules r → FixesStatus command.Check (verdict_status r) → IsFault r
-fixed_fault (InitialFails program) h f = tt
-fixed_fault (NotReflexive program guard at) h f = tt
-fixed_fault (Fails program place at) h f = tt
-fixed_fault (Undecided program place why) h f = absurd f
-fixed_fault NoMemory h f = absurd h
+-- a refusal tells a fault, or that something stays undecided
+told_fault : (r : Refused) (a : Answer) → verdict_answer r ≡ Some a → ((a.0 ≡ status.Refused) × IsFault r) ⊎ (a.0 ≡ status.Undecided)
+told_fault (InitialFails program) a e = inl (sym (ap (λ x. x.0) (answer_same _ a e)), tt)
+told_fault (NotReflexive program guard at) a e = inl (sym (ap (λ x. x.0) (answer_same _ a e)), tt)
+told_fault (Fails program place at) a e = inl (sym (ap (λ x. x.0) (answer_same _ a e)), tt)
+told_fault (Undecided program place why) a e = inr (sym (ap (λ x. x.0) (answer_same _ a e)))
+told_fault NoMemory a e = absurd (answer_none a e)
 
--- and its status is this one
-fixed_refused : (r : Refused) → HasRules r → FixesStatus command.Check (verdict_status r) → verdict_status r ≡ status.Refused
-fixed_refused (InitialFails program) h f = refl
-fixed_refused (NotReflexive program guard at) h f = refl
-fixed_refused (Fails program place at) h f = refl
-fixed_refused (Undecided program place why) h f = absurd f
-fixed_refused NoMemory h f = absurd h
+-- one that fixes the status tells a fault
+fixed_fault : (r : Refused) (a : Answer) → verdict_answer r ≡ Some a → FixesStatus command.Check a.0 → (a.0 ≡ status.Refused) × IsFault r
+fixed_fault r a e f = elim (told_fault r a e) [
+  | inl h ↦ h
+  | inr h ↦ absurd (subst (FixesStatus command.Check) h f)
+]
 
 -- no refusal fixes the text
-loose_text : (r : Refused) → HasRules r → FixesText command.Check (verdict_status r) → ⊥
-loose_text (InitialFails program) h f = f
-loose_text (NotReflexive program guard at) h f = f
-loose_text (Fails program place at) h f = f
-loose_text (Undecided program place why) h f = f
-loose_text NoMemory h f = h
+loose_text : (r : Refused) (a : Answer) → verdict_answer r ≡ Some a → FixesText command.Check a.0 → ⊥
+loose_text r a e f = elim (told_fault r a e) [
+  | inl h ↦ subst (FixesText command.Check) h.0 f
+  | inr h ↦ subst (FixesText command.Check) h f
+]
 
 -- none is told as accepted
-not_ok : (r : Refused) → HasRules r → status.Ok ≡ verdict_status r → ⊥
-not_ok (InitialFails program) h e = cc
-not_ok (NotReflexive program guard at) h e = cc
-not_ok (Fails program place at) h e = cc
-not_ok (Undecided program place why) h e = cc
-not_ok NoMemory h e = h
+not_ok : (r : Refused) (a : Answer) → verdict_answer r ≡ Some a → a.0 ≡ status.Ok → ⊥
+not_ok r a e s = elim (told_fault r a e) [
+  | inl h ↦ let k = h.0 in cc
+  | inr h ↦ cc
+]
 
 -- programs with the same rules aren't accepted and at fault
 clash : (p q : Program) (a b : Answer) → rules_in p ≡ rules_in q → IsToldAccepted p a → (h : IsToldRefused q b) → IsFault h.refused → ⊥
-clash p q a b same yes h fault = h.fault fault (subst IsAccepted same yes.is_kept.may_be.accepted)
-
-agree_at : (other answer other' answer' : Answer) → other ≡ other' → answer ≡ answer' → Agree command.Check other' answer' → Agree command.Check other answer
-agree_at other answer other' answer' e f h = subst (λ o. Agree command.Check o answer) (sym e) (subst (λ a. Agree command.Check other' a) (sym f) h)
+clash p q a b same kept h fault = h.fault fault (subst IsAccepted same kept.is_kept.may_be.accepted)
 
 -- a table that is told is whole
 whole_in : (p : Program) (a : Answer) (tree : ProgramTree) → rules_in p ≡ rules_of tree → (h : IsToldAccepted p a)
     → IsWhole (rules_of tree).shape (rules_of tree).guards h.kept.accords
 whole_in p a tree same h = record {
   right = subst (λ (r : Rules). IsRight r.shape r.guards h.kept.accords) same h.is_kept.may_be.right;
-  whole = h.whole;
+  whole = h.is_kept.whole;
 }
 
 text_same : (tree : ProgramTree) (p q : Program) (a b : Answer) → rules_in p ≡ rules_of tree → p.names ≡ names_of tree → rules_in q ≡ rules_of tree → q.names ≡ names_of tree
@@ -115,21 +114,18 @@ verdicts_agree : (tree : ProgramTree) (p q : Program) (a b : Answer) → rules_i
     → VerdictSays p a → VerdictSays q b → Agree command.Check a b
 verdicts_agree tree p q a b ruled named ruled' named' (inl h) (inl g) =
     agree_same command.Check a b (h.told ∙ (ap (λ t. (status.Ok, t)) (text_same tree p q a b ruled named ruled' named' h g) ∙ sym g.told))
-verdicts_agree tree p q a b ruled named ruled' named' (inl h) (inr g) =
-    agree_at a b (status.Ok, accord_text h.kept) (verdict_answer g.refused) h.told g.told (record {
-      status = λ f k. absurd (clash p q a b (ruled ∙ sym ruled') h g (fixed_fault g.refused g.rules k));
-      text = λ f s. absurd (loose_text g.refused g.rules f);
-    })
-verdicts_agree tree p q a b ruled named ruled' named' (inr h) (inl g) =
-    agree_at a b (verdict_answer h.refused) (status.Ok, accord_text g.kept) h.told g.told (record {
-      status = λ f k. absurd (clash q p b a (ruled' ∙ sym ruled) g h (fixed_fault h.refused h.rules f));
-      text = λ f s. absurd (not_ok h.refused h.rules (sym s));
-    })
-verdicts_agree tree p q a b ruled named ruled' named' (inr h) (inr g) =
-    agree_at a b (verdict_answer h.refused) (verdict_answer g.refused) h.told g.told (record {
-      status = λ f k. fixed_refused h.refused h.rules f ∙ sym (fixed_refused g.refused g.rules k);
-      text = λ f s. absurd (loose_text g.refused g.rules f);
-    })
+verdicts_agree tree p q a b ruled named ruled' named' (inl h) (inr g) = record {
+  status = λ f k. absurd (clash p q a b (ruled ∙ sym ruled') h g (fixed_fault g.refused b g.told k).1);
+  text = λ f s. absurd (loose_text g.refused b g.told f);
+}
+verdicts_agree tree p q a b ruled named ruled' named' (inr h) (inl g) = record {
+  status = λ f k. absurd (clash q p b a (ruled' ∙ sym ruled) g h (fixed_fault h.refused a h.told f).1);
+  text = λ f s. absurd (not_ok h.refused a h.told (s ∙ ap (λ x. x.0) g.told));
+}
+verdicts_agree tree p q a b ruled named ruled' named' (inr h) (inr g) = record {
+  status = λ f k. (fixed_fault h.refused a h.told f).0 ∙ sym (fixed_fault g.refused b g.told k).0;
+  text = λ f s. absurd (loose_text g.refused b g.told f);
+}
 
 trees_agree : (tree : ProgramTree) (other answer : Answer) → TreeSays tree other → TreeSays tree answer → Agree command.Check other answer
 trees_agree tree other answer (inl h) (inl g) =
@@ -184,21 +180,21 @@ told_right tree program (Ok reply) none ruled named h = inr (none, record { prog
 told_right tree program (Err e) none ruled named h = tt
 
 -- it is accepted, or refused
-pub told_accepted : (program : Program) (kept : Kept) (r : Result Reply AllocError) → IsKeptAs program kept → IsTable kept.accords
+pub told_accepted : (program : Program) (kept : Kept) (r : Result Reply AllocError) → IsKeptAs program kept
     → IfOk r (λ reply. answer_of reply ≡ (status.Ok, accord_text kept)) → IfOk r (λ reply. VerdictSays program (answer_of reply))
-told_accepted program kept (Ok reply) is whole h = inl (record { kept = kept; is_kept = is; whole = whole; told = h })
-told_accepted program kept (Err e) is whole h = tt
+told_accepted program kept (Ok reply) is h = inl (record { kept = kept; is_kept = is; told = h })
+told_accepted program kept (Err e) is h = tt
 
-pub told_refused : (program : Program) (refused : Refused) (r : Result Reply AllocError) → HandsBack program refused → HasRules refused
+pub told_refused : (program : Program) (refused : Refused) (r : Result Reply AllocError) → HandsBack program refused
     → IsRefusedFor (rules_in program) refused → (IsFault refused → ¬ IsAccepted (rules_in program))
-    → IfOk r (λ reply. answer_of reply ≡ verdict_answer refused) → IfOk r (λ reply. VerdictSays program (answer_of reply))
-told_refused program refused (Ok reply) back rules why fault h = inr (record { refused = refused; back = back; rules = rules; why = why; fault = fault; told = h })
-told_refused program refused (Err e) back rules why fault h = tt
+    → IfOk r (λ reply. verdict_answer refused ≡ Some (answer_of reply)) → IfOk r (λ reply. VerdictSays program (answer_of reply))
+told_refused program refused (Ok reply) back why fault h = inr (record { refused = refused; back = back; why = why; fault = fault; told = h })
+told_refused program refused (Err e) back why fault h = tt
 
 -- a refusal that is no want of memory has its program
-pub has_rules : (program : Program) (r : Refused) → AreRules (rules_in program) → HandsBack program r → r ≢ NoMemory → HasRules r
+pub has_rules : (program : Program) (r : Refused) → AreRules (rules_in program) → HandsBack program r → IsSome (verdict_answer r) → HasRules r
 has_rules program (InitialFails p) rules back some = subst (λ x. AreRules (rules_in x)) (sym back) rules
 has_rules program (NotReflexive p guard at) rules back some = subst (λ x. AreRules (rules_in x)) (sym back) rules
 has_rules program (Fails p place at) rules back some = subst (λ x. AreRules (rules_in x)) (sym back) rules
 has_rules program (Undecided p place why) rules back some = subst (λ x. AreRules (rules_in x)) (sym back) rules
-has_rules program NoMemory rules back some = absurd (some refl)
+has_rules program NoMemory rules back some = cc

@@ -1,6 +1,5 @@
-ghost use Rattle.std.specs.Prelude.{◌≡◌, ◌≤◌, length, IfOk};
+ghost use Rattle.std.specs.Prelude.{◌≡◌, ◌≤◌, length, option_map, IfOk, IsSome, Some};
 ghost use Rattle.carol_accept.specs.Verdicts.{HasRules};
-ghost use Rattle.carol_program.specs.Accords.{IsTable};
 ghost use Rattle.carol_program.specs.Rules.{rules_in};
 ghost use Rattle.carol_program.specs.WellFormed.{IsWellFormed};
 ghost use Rattle.carol_report_accords.specs.Texts as accords;
@@ -9,7 +8,7 @@ ghost use Rattle.carol_syntax.specs.Shape.{IsProgram};
 ghost use Rattle.carol_syntax.specs.Size.{IsSizedProgram};
 ghost use Rattle.carol_syntax.specs.Limits.{most_text_bytes};
 ghost use Rattle.carol_tool.specs.Answer.{IsReply};
-ghost use Rattle.carol_tool.specs.Check.{TreeSays, VerdictSays, verdict_answer, verdict_status};
+ghost use Rattle.carol_tool.specs.Check.{TreeSays, VerdictSays, verdict_answer};
 ghost use Rattle.carol_tool.specs.Reply.{answer_of};
 
 use super::command::Command;
@@ -65,18 +64,15 @@ fn check_program<R: Threads + Sync>(
 {
     match accept(rt, alloc, program) {
         Ok(accepted) => acceptance(alloc, &accepted),
-        Err(Refused::NoMemory) => Err(AllocError),
         Err(refused) => refusal(alloc, &refused),
     }
 }
 
 // Says that a program is accepted, and what its table of accords has.
 fn acceptance(alloc: Global, accepted: &Accepted) -> Result<Reply, AllocError>
-    ensures told { IfOk result (λ reply.
+    ensures { IfOk result (λ reply.
         answer_of reply ≡ (Status.Ok, accords.accord_text accepted.now)) }
-    ensures table { IsTable accepted.now.accords }
 {
-    let _table = accepted.accords();
     Ok(Reply {
         status: Status::Ok,
         text: accord_text(alloc, accepted)?,
@@ -85,22 +81,25 @@ fn acceptance(alloc: Global, accepted: &Accepted) -> Result<Reply, AllocError>
 
 // Says why a program isn't accepted.
 fn refusal(alloc: Global, refused: &Refused) -> Result<Reply, AllocError>
-    requires { HasRules refused.now }
-    ensures { IfOk result (λ reply. answer_of reply ≡ verdict_answer refused.now) }
+    requires { IsSome (verdict_answer refused.now) → HasRules refused.now }
+    ensures { IfOk result (λ reply. verdict_answer refused.now ≡ Some (answer_of reply)) }
 {
+    let status = verdict_status(refused).ok_or(AllocError)?;
     Ok(Reply {
-        status: verdict_status(refused),
+        status,
         text: verdict_text(alloc, refused)?,
     })
 }
 
-fn verdict_status(refused: &Refused) -> Status
-    ensures { result ≡ verdict_status refused.now }
+// The status of a refusal, unless memory ran out.
+fn verdict_status(refused: &Refused) -> Option<Status>
+    ensures { result ≡ option_map (λ answer. answer.0) (verdict_answer refused.now) }
 {
     match refused {
-        Refused::InitialFails(_) | Refused::NotReflexive(..) | Refused::Fails(..) =>
-            Status::Refused,
-        Refused::Undecided(..) => Status::Undecided,
-        Refused::NoMemory => Status::NoMemory,
+        Refused::InitialFails(_) | Refused::NotReflexive(..) | Refused::Fails(..) => {
+            Some(Status::Refused)
+        }
+        Refused::Undecided(..) => Some(Status::Undecided),
+        Refused::NoMemory => None,
     }
 }
