@@ -4,6 +4,7 @@ use Rattle.std.specs.Prelude.{Option, Some, None}
 use Rattle.carol_program.specs.Rules.{Rules}
 use Rattle.carol_program.specs.declared.scenes.Scene.{Scene}
 use Rattle.carol_history.specs.declared.history.TheConstants.{MOST_EVENTS}
+use Rattle.carol_history.specs.declared.script.BadStatement.{BadStatement}
 use Rattle.carol_history.specs.declared.script.ScriptCause.{ScriptCause}
 use Rattle.carol_history.specs.declared.script.Statement.{Statement}
 use Rattle.carol_history.specs.Scripts.{ComesTo, Fails, Gives, Scripted}
@@ -24,12 +25,8 @@ of_first : (P : Rules → Scene → Type 0) (first now : House) → IsOverSame f
 of_first P first now over h = rw (over.kept, over.scene) at h
 
 -- before the first statement
-pub starts : (first now : House) (lines : List Statement) → length first.history + length lines ≤ MOST_EVENTS → Rests first now → Playing first lines lines 1 now
-starts first now lines few rests = record {
-  over = rests.over;
-  ends = λ scripted comes. rw rests.history at comes;
-  few = rw rests.history few;
-}
+pub starts : (first : House) (lines : List Statement) → length first.history + length lines ≤ MOST_EVENTS → Playing first lines lines 1 first
+starts first lines few = record { over = record { kept = refl; scene = refl }; ends = λ scripted comes. comes; few = few }
 
 -- the statement gave an event
 goes_on : (first : House) (lines : List Statement) (line : Statement) (left : List Statement) (number : ℕ) (now new : House) → Playing first lines (line ∷ left) number now → Makes now line None new → Playing first lines left (number + 1) new
@@ -59,3 +56,9 @@ pub goes_on_at : (first : House) (lines : List Statement) (place : ℕ) (blank :
 goes_on_at first lines place blank now new bad inside none h made =
     let here : drop place lines ≡ get_or lines place blank ∷ drop (place + 1) lines = rw add-one (drop-cons lines place blank inside)
     in goes_on first lines (get_or lines place blank) (drop (place + 1) lines) (place + 1) now new (rw here at h) (rw none at made)
+
+-- after memory was taken
+pub plays_reserved : (old reserved new : House) (lines : List Statement) (bad : Option BadStatement) → Rests old reserved → Plays reserved lines new bad → Plays old lines new bad
+plays_reserved old reserved new lines bad rests plays =
+    let script = of_first (λ p scene. ComesTo p scene 1 lines reserved.history (record { history = new.history; bad = bad })) old reserved rests.over plays.script
+    in record { over = over_both old reserved new rests.over plays.over; script = rw rests.history at script }

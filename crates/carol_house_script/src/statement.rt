@@ -9,8 +9,8 @@ use carol_program::Scene;
 use std::alloc::AllocError;
 
 /// Runs one statement, and answers why it gave no event where it gave none: a session that is not
-/// there comes before one that is finished, and a pair that is not there before one that is cut off,
-/// which comes before nothing new.
+/// there comes before one that is finished, and a pair that is not there before one that is cut
+/// off, which comes before nothing new.
 pub fn run_statement(house: &mut House, line: Statement) -> Result<Option<ScriptCause>, AllocError>
     requires { length house.old.history < MOST_EVENTS }
     ensures { IfOk result (λ bad. Makes house.old line bad house.new) }

@@ -2,7 +2,8 @@ ghost use Rattle.std.specs.Prelude.{◌≡◌, ◌++◌, IfOk, OnOk, flat_map};
 ghost use Rattle.std.specs.String.{string_bytes};
 ghost use Rattle.carol_event.specs.Texts.{event_line};
 ghost use Rattle.carol_house.specs.House.{rules_of};
-ghost use Rattle.carol_report.specs.Report.{end_line, is_full, last_word, report_text, summary_text};
+ghost use Rattle.carol_report.specs.Report.{end_line, is_full, last_word};
+ghost use Rattle.carol_report.specs.Report.{report_text, summary_text};
 
 use crate::results::push_results;
 use crate::stores::{push_global, push_stores};
@@ -11,9 +12,9 @@ use carol_house::{House, MOST_EVENTS};
 use std::alloc::{AllocError, Global};
 use std::fmt::Write;
 
-/// The report of the house: a line for each event, one for each command with how it came out, one for
-/// each replica's store, the global store, and the number of events, behind `full` where there can be
-/// no more of them and a command is not done, and else behind `end`.
+/// The report of the house: a line for each event, one for each command with how it came out, one
+/// for each replica's store, the global store, and the number of events, behind `full` where there
+/// can be no more of them and a command is not done, and else behind `end`.
 #[tactic(auto, unfolding(crate::specs::Report::report_text))]
 pub fn report(alloc: Global, house: &House) -> Result<Vec<u8>, AllocError>
     ensures { IfOk result (λ bytes. bytes.items
