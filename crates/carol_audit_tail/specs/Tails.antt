@@ -63,7 +63,8 @@ pub record HasEvents (tail : List ℕ) (events : List Event) : Type 0 where
   pub front : Front tail events rest
   pub results : IsResultsFirst rest
 
--- behind the lines of events stands one that is bad, at this place, if the tail begins with this line
+-- behind the lines of events stands one that is bad, at this place, if the tail begins with this
+-- line
 pub record HasBad (tail : List ℕ) (first line column : ℕ) : Type 0 where
   pub events : List Event
   pub rest : List ℕ

@@ -2,8 +2,8 @@ ghost use Rattle.std.specs.Prelude.{◌≡◌, ◌+◌, ◌<◌, ◌≤◌, leng
 ghost use Rattle.carol_audit_tail.specs.Lines.{IsFirstFalseLine, next_number, parting};
 
 /// The number, from 1, of the first line in which the text differs from the right one; a line that
-/// one of them lacks differs, and so does a last one that lacks its line feed. None exactly where the
-/// texts are equal.
+/// one of them lacks differs, and so does a last one that lacks its line feed. None exactly where
+/// the texts are equal.
 pub fn first_false_line(right: &[u8], text: &[u8]) -> Option<u32>
     requires { length text.now < 4_294_967_295 }
     ensures tells { MatchOption result (right.now ≡ text.now)

@@ -10,9 +10,9 @@ use carol_event::Event;
 use carol_history::MOST_EVENTS;
 use std::alloc::Global;
 
-/// Reads the events of a tail, which begins with this line of the whole input: those of its lines up
-/// to the line `results`. A tail that ends before that line is bad at its end. There are at most
-/// 131,072 of them, and they are the only ones whose lines the tail begins with.
+/// Reads the events of a tail, which begins with this line of the whole input: those of its lines
+/// up to the line `results`. A tail that ends before that line is bad at its end. There are at most
+/// 131,072 of them, and no other events' lines stand there.
 pub fn read_events(alloc: Global, tail: &[u8], line: u32) -> Result<Vec<Event>, TailError>
     requires { line + length tail.now < 4_294_967_295 }
     ensures found { IfOk result (λ events. HasEvents tail.now events.items) }
