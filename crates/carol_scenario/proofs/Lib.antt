@@ -2,3 +2,4 @@ pub mod Fits
 pub mod Firsts
 pub mod Commands
 pub mod Valid
+pub mod Generating
