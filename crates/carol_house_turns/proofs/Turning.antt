@@ -1,5 +1,5 @@
 -- One turn, and one round, after another.
-use Rattle.std.proofs.Common.{◌≡◌, ◌↔◌, ℕ, Bool, true, zero, suc, ◌+◌, ◌<◌, List, ◌∷◌, length, inl, inr, refl, sym, subst, ◌∙◌, ap, add-one, arith}
+use Rattle.std.proofs.Common.{◌≡◌, ◌↔◌, ℕ, Bool, true, false, zero, suc, ◌+◌, ◌-◌, ◌<◌, ◌≤◌, List, ◌∷◌, length, inl, inr, refl, sym, subst, ◌∙◌, ap, add-one, arith}
 use Rattle.std.specs.Prelude.{◌⊎◌}
 use Rattle.std.proofs.lemmas.Bool.{cases_eq, cases_lt}
 use Rattle.std.proofs.lemmas.Option.{slice_get_within}
@@ -10,12 +10,22 @@ use Rattle.carol_history.specs.declared.history.TheConstants.{MOST_EVENTS}
 use Rattle.carol_history.specs.Acts.{UnderWay}
 use Rattle.carol_history.specs.Laws.{DoneIsNoneUnderWay}
 use Rattle.carol_history.specs.Results.{AreDone}
-use Rattle.carol_house.specs.House.{House, IsOverSame, Rests, rules_of}
-use Rattle.carol_house_turns.specs.Turns.{IsFull, IsOver, Rounds, Turn, TurnOfEach, Turns}
+use Rattle.carol_house.specs.House.{Enters, House, IsOverSame, Rests, rules_of}
+use Rattle.carol_house_turns.specs.Turns.{Continues, IsFull, IsOver, Rounds, Turn, TurnOfEach, Turns}
 
--- the same program in the same scene
-pub over_both : (first now new : House) → IsOverSame first now → IsOverSame now new → IsOverSame first new
+-- one step after the other
+over_both : (first now new : House) → IsOverSame first now → IsOverSame now new → IsOverSame first new
 over_both first now new one other = record { kept = other.kept ∙ one.kept; scene = other.scene ∙ one.scene }
+
+continues_both : (first now new : House) → Continues first now → Continues now new → Continues first new
+continues_both first now new one other = record { over = over_both first now new one.over other.over; room = omega (arith, one.room, other.room) }
+
+-- an event takes the room of one, and nothing takes none
+pub enters_continues : (old : House) (given : Event) (new : House) → Enters old given new → Continues old new
+enters_continues old given new h = record { over = h.over; room = omega (arith, h.spare, ap length h.history, add-one (length old.history)) }
+
+pub same_continues : (old new : House) → new ≡ old → Continues old new
+same_continues old new same = subst (λ (house : House). Continues old house) (sym same) (record { over = record { kept = refl; scene = refl }; room = omega arith })
 
 -- what is said of the house as it is now is said of the first one's program and scene
 of_first : (P : Rules → Scene → Type 0) (first now : House) → IsOverSame first now → P (rules_of now) now.scene → P (rules_of first) first.scene
@@ -23,37 +33,38 @@ of_first P first now over h = rw (over.kept, over.scene) at h
 
 -- the turns of the first sessions were taken
 pub record Turning (first : House) (session : ℕ) (now : House) : Type 0 where
-  pub over : IsOverSame first now
+  pub goes_on : Continues first now
   pub turns : TurnOfEach (rules_of first) first.scene session first.history now.history
 
 pub no_turn : (house : House) → Turning house 0 house
-no_turn house = record { over = record { kept = refl; scene = refl }; turns = refl }
+no_turn house = record { goes_on = same_continues house house refl; turns = refl }
 
-pub turn_more : (first : House) (session : ℕ) (now new : House) → Turning first session now → IsOverSame now new → Turn (rules_of now) now.scene session now.history new.history → Turning first (session + 1) new
-turn_more first session now new h over turn =
-    let there = of_first (λ p scene. Turn p scene session now.history new.history) first now h.over turn
-    in record { over = over_both first now new h.over over; turns = rw add-one (now.history, h.turns, there) }
+pub turn_more : (first : House) (session : ℕ) (now new : House) → Turning first session now → Continues now new → Turn (rules_of now) now.scene session now.history new.history → Turning first (session + 1) new
+turn_more first session now new h on turn =
+    let there = of_first (λ p scene. Turn p scene session now.history new.history) first now h.goes_on.over turn
+    in record { goes_on = continues_both first now new h.goes_on on; turns = rw add-one (now.history, h.turns, there) }
 
 -- the first sessions are as many as there are
 pub turned : (first : House) (n : ℕ) (now : House) → Turning first n now → n ≡ length first.scene.sessions → TurnOfEach (rules_of first) first.scene (length first.scene.sessions) first.history now.history
 turned first n now h all = subst (λ (k : ℕ). TurnOfEach (rules_of first) first.scene k first.history now.history) all h.turns
 
--- so many rounds were made
-pub record Running (first now : House) : Type 0 where
+-- so many rounds were made, after room was taken for so many steps
+pub record Running (steps : ℕ) (first now : House) : Type 0 where
   pub over : IsOverSame first now
+  pub room : steps + length first.history ≤ now.spare + length now.history
   pub rounds : ℕ
   pub made : Rounds (rules_of first) first.scene rounds first.history now.history
 
-pub no_round : (first now : House) → Rests first now → Running first now
-no_round first now rests = record { over = rests.over; rounds = 0; made = rests.history }
+pub no_round : (steps : ℕ) (first now : House) → Rests first now → steps ≤ now.spare → Running steps first now
+no_round steps first now rests room = record { over = rests.over; room = omega (arith, room, ap length rests.history); rounds = 0; made = rests.history }
 
-pub round_more : (first now new : House) → Running first now → IsOverSame now new → TurnOfEach (rules_of now) now.scene (length now.scene.sessions) now.history new.history → Running first new
-round_more first now new h over turns =
+pub round_more : (steps : ℕ) (first now new : House) → Running steps first now → Continues now new → TurnOfEach (rules_of now) now.scene (length now.scene.sessions) now.history new.history → Running steps first new
+round_more steps first now new h on turns =
     let there = of_first (λ p scene. TurnOfEach p scene (length scene.sessions) now.history new.history) first now h.over turns
-    in record { over = over_both first now new h.over over; rounds = suc h.rounds; made = (now.history, h.made, there) }
+    in record { over = over_both first now new h.over on.over; room = omega (arith, h.room, on.room); rounds = suc h.rounds; made = (now.history, h.made, there) }
 
-pub runs_out : (first now : House) → Running first now → IsOver now.scene now.history → Turns (rules_of first) first.scene first.history now.history
-runs_out first now h over = record { rounds = h.rounds; made = h.made; over = rw h.over.scene at over }
+pub runs_out : (steps : ℕ) (first now : House) → Running steps first now → IsOver now.scene now.history → Turns (rules_of first) first.scene first.history now.history
+runs_out steps first now h over = record { rounds = h.rounds; made = h.made; over = rw h.over.scene at over }
 
 -- ---- a round in which no session goes on
 
@@ -114,3 +125,14 @@ done_is_over scene past done not_full law tells = (λ h. inl (law.0 (tells.0 h))
     back : IsOver scene past → done ≡ true
     back (inl none) = tells.1 (law.1 none)
     back (inr full) = absurd (not_full full)
+
+-- so a round brings the history nearer to its most events
+pub nearer : (now new : House) (over : Bool) → over ≡ false → (over ≡ true) ↔ IsOver now.scene now.history → length now.history ≤ MOST_EVENTS → TurnOfEach (rules_of now) now.scene (length now.scene.sessions) now.history new.history → MOST_EVENTS - length new.history < MOST_EVENTS - length now.history
+nearer now new over going tells few turns =
+    let not_over : IsOver now.scene now.history → ⊥ = λ is. clash (sym (tells.1 is) ∙ going)
+    in let more = round_grows (rules_of now) now.scene now.history new.history not_over turns
+    in let not_full : length now.history ≡ MOST_EVENTS → ⊥ = λ full. not_over (inr full)
+    in omega (arith, more, not_full, few)
+  where
+    clash : true ≡ false → ⊥
+    clash e = cc

@@ -1,11 +1,12 @@
 -- The history that sessions make which go on in turn.
-use Rattle.std.specs.Prelude.{◌≡◌, ◌⊎◌, ℕ, zero, suc, ◌<◌, List, ◌∷◌, length}
+use Rattle.std.specs.Prelude.{◌≡◌, ◌⊎◌, ℕ, zero, suc, ◌+◌, ◌<◌, ◌≤◌, List, ◌∷◌, length}
 use Rattle.carol_program.specs.Rules.{Rules}
 use Rattle.carol_program.specs.declared.scenes.Scene.{Scene}
 use Rattle.carol_event.specs.declared.event.Event.{Event}
 use Rattle.carol_history.specs.declared.history.TheConstants.{MOST_EVENTS}
 use Rattle.carol_history.specs.Acts.{UnderWay}
 use Rattle.carol_history.specs.Forced.{Forced}
+use Rattle.carol_house.specs.House.{House, IsOverSame}
 
 -- there may be no more events
 abbrev pub IsFull : List Event → Type 0
@@ -49,3 +50,8 @@ pub record Turns (p : Rules) (scene : Scene) (past new : List Event) : Type 0 wh
   pub rounds : ℕ
   pub made : Rounds p scene rounds past new
   pub over : IsOver scene new
+
+-- the same program in the same scene, and room that is left but for that of the events since
+pub record Continues (old new : House) : Type 0 where
+  pub over : IsOverSame old new
+  pub room : old.spare + length old.history ≤ new.spare + length new.history

@@ -1,6 +1,6 @@
-ghost use Rattle.std.specs.Prelude.{◌≡◌, ◌↔◌, ◌<◌, ◌≤◌, true, length, IfOk, OnOk};
+ghost use Rattle.std.specs.Prelude.{◌≡◌, ◌↔◌, ◌+◌, ◌<◌, ◌≤◌, true, length, IfOk, OnOk};
 ghost use Rattle.carol_house.specs.House.{IsOverSame, rules_of};
-ghost use Rattle.carol_house_turns.specs.Turns.{IsOver, Turn, TurnOfEach, Turns};
+ghost use Rattle.carol_house_turns.specs.Turns.{Continues, IsOver, Turn, TurnOfEach, Turns};
 
 use carol_history::history_laws;
 use carol_house::{House, HouseError, MOST_EVENTS};
@@ -8,12 +8,14 @@ use std::alloc::AllocError;
 
 /// Advances the sessions in turn, the first one first: each that has a command under way makes one
 /// event a turn, until all commands are done or the history has 131,072 events. Memory for this
-/// many steps is taken at the start.
+/// many steps is taken at the start, and what they don't need of it is left.
 pub fn run_in_turns(house: House, steps: u32) -> Result<House, AllocError>
     requires { steps ≤ MOST_EVENTS }
     ensures over { IfOk result (λ new. IsOverSame house new) }
     ensures turns { IfOk result
         (λ new. Turns (rules_of house) house.scene house.history new.history) }
+    ensures room { IfOk result
+        (λ new. steps + length house.history ≤ new.spare + length new.history) }
 {
     let mut house = house;
     house.reserve(steps)?;
@@ -35,7 +37,7 @@ fn is_over(house: &House) -> bool
 
 // A turn of each session, the first one first.
 fn take_turns(house: &mut House) -> Result<(), AllocError>
-    ensures over { OnOk result (IsOverSame house.old house.new) }
+    ensures goes_on { OnOk result (Continues house.old house.new) }
     ensures turns { OnOk result (TurnOfEach (rules_of house.old) house.old.scene
         (length house.old.scene.sessions) house.old.history house.new.history) }
 {
@@ -49,7 +51,7 @@ fn take_turns(house: &mut House) -> Result<(), AllocError>
 // A turn of the session, which is in range.
 fn take_turn(house: &mut House, session: u32) -> Result<(), AllocError>
     requires { session < length house.old.scene.sessions }
-    ensures over { OnOk result (IsOverSame house.old house.new) }
+    ensures goes_on { OnOk result (Continues house.old house.new) }
     ensures turn { OnOk result (Turn (rules_of house.old) house.old.scene session
         house.old.history house.new.history) }
 {

@@ -4,7 +4,7 @@ use Rattle.carol_house_turns.proofs.Turning.{Running}
 use Rattle.carol_house_turns.proofs.rounds.run_in_turns.Given as goal
 
 abbrev pub invariant-loop-house : goal.invariant-loop-house
-invariant-loop-house l = Running l.fn.house l.house
+invariant-loop-house l = Running l.fn.steps l.fn.house l.house
 
 abbrev pub decreases-loop-house : goal.decreases-loop-house
 decreases-loop-house l = MOST_EVENTS - length l.house.history
