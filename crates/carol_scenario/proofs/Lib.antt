@@ -3,3 +3,4 @@ pub mod Firsts
 pub mod Commands
 pub mod Valid
 pub mod Generating
+pub mod Short

@@ -1,5 +1,6 @@
-ghost use Rattle.std.specs.Prelude.{◌≡◌, ◌+◌, ◌*◌, ◌<◌, ◌≤◌, ◌++◌, IfOk, OnOk};
+ghost use Rattle.std.specs.Prelude.{◌≡◌, ◌+◌, ◌*◌, ◌<◌, ◌≤◌, ◌++◌, length, IfOk, OnOk};
 ghost use Rattle.std.specs.String.{string_bytes};
+ghost use Rattle.carol_syntax.specs.Limits.{most_text_bytes};
 ghost use Rattle.carol_scenario.specs.Generated.{command_text, commands_text, generated_text, head_text, next_number, number_drawn, session_text};
 
 use std::alloc::{AllocError, Global};
@@ -39,11 +40,12 @@ const SESSIONS: u32 = 16;
 const REPLICAS: u32 = 4;
 
 /// The text of a large input, in the canonical layout: a bank, and a scene of sixteen sessions with
-/// `n` commands each, drawn one after another.
+/// `n` commands each, drawn one after another. It is short enough to be read.
 pub fn generate(alloc: Global, n: u32) -> Result<Vec<u8>, AllocError>
     requires some { 1 ≤ n }
     requires few { n ≤ MOST_PER_SESSION }
-    ensures { IfOk result (λ text. text.items ≡ generated_text n) }
+    ensures text { IfOk result (λ text. text.items ≡ generated_text n) }
+    ensures short { IfOk result (λ text. length text.items ≤ most_text_bytes) }
 {
     let mut text = String::new(alloc);
     push_head(&mut text)?;
