@@ -10,7 +10,7 @@ use Rattle.carol_history.specs.declared.history.TheConstants.{MOST_EVENTS}
 use Rattle.carol_history.specs.Acts.{UnderWay}
 use Rattle.carol_history.specs.Laws.{DoneIsNoneUnderWay}
 use Rattle.carol_history.specs.Results.{AreDone}
-use Rattle.carol_house.specs.House.{Enters, House, IsOverSame, Rests, rules_of}
+use Rattle.carol_house.specs.House.{House, IsOverSame, Rests, rules_of}
 use Rattle.carol_house_turns.specs.Turns.{Continues, IsFull, IsOver, Rounds, Turn, TurnOfEach, Turns}
 
 -- one step after the other
@@ -20,11 +20,8 @@ over_both first now new one other = record { kept = other.kept ∙ one.kept; sce
 continues_both : (first now new : House) → Continues first now → Continues now new → Continues first new
 continues_both first now new one other = record { over = over_both first now new one.over other.over; room = omega (arith, one.room, other.room) }
 
--- an event takes the room of one, and nothing takes none
-pub enters_continues : (old : House) (given : Event) (new : House) → Enters old given new → Continues old new
-enters_continues old given new h = record { over = h.over; room = omega (arith, h.spare, ap length h.history, add-one (length old.history)) }
-
-pub same_continues : (old new : House) → new ≡ old → Continues old new
+-- nothing came of it
+same_continues : (old new : House) → new ≡ old → Continues old new
 same_continues old new same = subst (λ (house : House). Continues old house) (sym same) (record { over = record { kept = refl; scene = refl }; room = omega arith })
 
 -- what is said of the house as it is now is said of the first one's program and scene
@@ -43,10 +40,6 @@ pub turn_more : (first : House) (session : ℕ) (now new : House) → Turning fi
 turn_more first session now new h on turn =
     let there = of_first (λ p scene. Turn p scene session now.history new.history) first now h.goes_on.over turn
     in record { goes_on = continues_both first now new h.goes_on on; turns = rw add-one (now.history, h.turns, there) }
-
--- the first sessions are as many as there are
-pub turned : (first : House) (n : ℕ) (now : House) → Turning first n now → n ≡ length first.scene.sessions → TurnOfEach (rules_of first) first.scene (length first.scene.sessions) first.history now.history
-turned first n now h all = subst (λ (k : ℕ). TurnOfEach (rules_of first) first.scene k first.history now.history) all h.turns
 
 -- so many rounds were made, after room was taken for so many steps
 pub record Running (steps : ℕ) (first now : House) : Type 0 where
