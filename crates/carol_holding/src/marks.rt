@@ -12,7 +12,7 @@ use crate::row::{MOST_ENTRIES, MOST_WORDS};
 pub fn is_marked(words: &[u64], entry: u32) -> bool
     ensures { result ≡ is_marked words.now entry }
 {
-    (word_at(words, entry as usize / 64) >> (entry % 64)) & 1 == 1
+    (word_at(words, (entry / u64::BITS) as usize) >> (entry % u64::BITS)) & 1 == 1
 }
 
 /// Marks the entry. There is room for a word for each.
@@ -25,9 +25,9 @@ pub fn mark(words: &mut Vec<u64>, entry: u32)
     ensures few { vec_len words.new ≤ MOST_WORDS }
     ensures room { MOST_WORDS ≤ vec_capacity words.new }
 {
-    let at = entry as usize / 64;
+    let at = (entry / u64::BITS) as usize;
     lengthen(words, at + 1);
-    words[at] |= 1 << (entry % 64);
+    words[at] |= 1 << (entry % u64::BITS);
 }
 
 /// The lowest entry, from this one on, that isn't marked.
@@ -56,7 +56,7 @@ pub fn first_beyond(mine: &[u64], theirs: &[u64], start: usize) -> Option<u32>
     for at in start..mine.len() {
         let beyond = word_at(mine, at) & !word_at(theirs, at);
         if beyond != 0 {
-            return Some(at as u32 * 64 + beyond.trailing_zeros());
+            return Some(at as u32 * u64::BITS + beyond.trailing_zeros());
         }
     }
     None

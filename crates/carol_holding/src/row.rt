@@ -10,7 +10,7 @@ use std::marker::Model;
 pub const MOST_ENTRIES: u32 = 131_072;
 
 /// How many words have a mark for each of them.
-pub const MOST_WORDS: usize = 2_048;
+pub const MOST_WORDS: usize = (MOST_ENTRIES / u64::BITS) as usize;
 
 /// The entries that one replica holds, each of them marked; all below the front are. Contracts see
 /// it as what is held, and whether there is room for any entry.
@@ -67,7 +67,11 @@ impl Row {
     pub fn first_beyond(&self, other: &Row) -> Option<u32>
         ensures { IsFirstLacked self.now.held other.now.held result }
     {
-        marks::first_beyond(&self.marks, &other.marks, other.front as usize / 64)
+        marks::first_beyond(
+            &self.marks,
+            &other.marks,
+            (other.front / u64::BITS) as usize,
+        )
     }
 
     /// Takes room for any entry. What is held stays, whatever is answered.
