@@ -36,6 +36,7 @@ pub fn first_unmarked(words: &[u64], from: u32) -> u32
     requires from { from ≤ MOST_ENTRIES }
     ensures unmarked { is_marked words.now result ≡ false }
     ensures marked { (i : ℕ) → from ≤ i → i < result → is_marked words.now i ≡ true }
+    ensures least { from ≤ result }
     ensures within { result ≤ MOST_ENTRIES }
 {
     let mut at = from;

@@ -18,5 +18,6 @@ loop-at-preserved c =
         | inl same ↦ subst (λ (x : ℕ). is_marked c.args.words.now x ≡ true) same marked
         | inr apart ↦ c.loop-at.invariant.marked i from (omega arith)
       ];
+      least = omega arith;
       within = omega arith;
     }

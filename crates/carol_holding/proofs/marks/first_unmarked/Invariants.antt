@@ -6,6 +6,7 @@ use Rattle.carol_holding.proofs.marks.first_unmarked.Given as goal
 abbrev pub invariant-loop-at : goal.invariant-loop-at
 invariant-loop-at l = record {
   marked : (i : ℕ) → l.from ≤ i → i < l.at → is_marked l.words i ≡ true;
+  least : l.from ≤ l.at;
   within : l.at ≤ MOST_ENTRIES;
 }
 
