@@ -18,8 +18,10 @@ marked_from words least (suc count) =
 
 -- what a replica with this front holds, where its entries are marked in these words
 abbrev pub held_of : ℕ → List ℕ → HeldBy
-held_of front words =
-    record { front = front; above = marked_from words (front + 1) (64 * length words - (front + 1)) }
+held_of front words = record {
+  front = front;
+  above = marked_from words (front + 1) (64 * length words - (front + 1));
+}
 
 -- the front is the lowest entry that isn't marked
 pub record IsKept (front : ℕ) (words : List ℕ) : Type 0 where

@@ -47,8 +47,8 @@ impl Holding {
         self.rows[replica as usize].has(entry)
     }
 
-    /// The lowest entry that the replica, which is in range, doesn't hold: it is the number of entries
-    /// up to which all are held.
+    /// The lowest entry that the replica, which is in range, doesn't hold: it is the number of
+    /// entries up to which all are held.
     pub fn front(&self, replica: u32) -> u32
         requires { replica < length self.now.replicas }
         ensures below { (i : ℕ) → i < result → holds self.now replica i ≡ true }

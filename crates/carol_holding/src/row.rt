@@ -62,8 +62,8 @@ impl Row {
         self.front
     }
 
-    /// The lowest entry that is held here and that the other row lacks. It is looked for 64 at a time,
-    /// and not below the other's front.
+    /// The lowest entry that is held here and that the other row lacks. It is looked for 64 at a
+    /// time, and not below the other's front.
     pub fn first_beyond(&self, other: &Row) -> Option<u32>
         ensures { IsFirstLacked self.now.held other.now.held result }
     {
