@@ -3,7 +3,6 @@
 
 mod fed;
 mod machine;
-mod plan;
 mod wish;
 
 pub use fed::Fed;

@@ -13,7 +13,6 @@ ghost use Rattle.carol_machine.specs.Wishes.{IsInOrder, IsWishOf, ReadsSoFar, St
 ghost use Rattle.carol_machine.specs.Wishes.{wish_of, wish_to_query};
 
 use crate::fed::Fed;
-use crate::plan::copy_plan;
 use crate::wish::Wish;
 use carol_event::Cause;
 use carol_history::Outcome;
@@ -82,7 +81,7 @@ impl Machine {
     {
         let results = Vec::with_capacity(alloc, plan.commands.len())?;
         Ok(Machine {
-            plan: copy_plan(alloc, plan)?,
+            plan: plan.copy(alloc)?,
             tries,
             command: 0,
             refusals: 0,
