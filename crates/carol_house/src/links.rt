@@ -5,8 +5,8 @@ ghost use Rattle.carol_house.specs.Kept.{are_joined};
 
 use std::marker::Model;
 
-// How many replicas there are at most.
-const MOST_REPLICAS: usize = 8;
+/// How many replicas there are at most.
+pub const MOST_REPLICAS: usize = 8;
 
 /// Which replicas are joined. Contracts see it as a row for each replica.
 #[derive(Drop)]

@@ -2,12 +2,9 @@ ghost use Rattle.std.specs.Prelude.{◌≡◌, ℕ, ◌<◌, ◌==◌, ◌&&◌,
 ghost use Rattle.carol_program.specs.Limits.{most_guards, most_replicas};
 ghost use Rattle.carol_house.specs.Kept.{settled_below};
 
+use crate::links::MOST_REPLICAS;
+use carol_grant::MOST_GUARDS;
 use std::marker::Model;
-
-// How many replicas and guards there are at most.
-const MOST_REPLICAS: usize = 8;
-
-const MOST_GUARDS: usize = 16;
 
 /// For each replica and guard an entry below which all are held or admitted. Contracts see it as a
 /// row for each replica.
