@@ -72,6 +72,7 @@ return v.bal;
 const BELOW: &[u8] = b"program
 counter bal = -1;
 invariant bal >= 0;
+guard low: here.bal <= there.bal;
 ";
 
 const STRICT: &[u8] = b"program
@@ -94,68 +95,55 @@ scene replicas 9; tries 1; workers 1; gossipers 0; session at 20 { zz(); } end s
 
 const BANK_ACCORDS: &[u8] = b"accepted\nguard 0 low\nbal up yes\nbal down no\nend\n";
 
+const BOUNDED_ACCORDS: &[u8] = b"accepted\nguard 0 g\na up no\na down no\nend\n";
+
+const LATE_BREACH: &[u8] = b"refused
+place late 4 invariant
+n = 1
+v.bal = 1
+round 1 bal = 1
+round 2 bal = 0
+end
+";
+
 #[test]
-fn tells_verdicts(rt: HostRuntime) -> Result<(), Fail> {
-    let rows: [([&[u8]; 5], Status, &[u8]); 11] = [
-        (
-            [COUNTER, b"", b"", b"", b""],
-            Status::Ok,
-            b"accepted\nend\n",
-        ),
-        (
-            [HEAD, WITHDRAW, DEPOSIT, b"end\n", b""],
-            Status::Ok,
-            BANK_ACCORDS,
-        ),
-        (
-            [HEAD, WITHDRAW, DEPOSIT, SCENE, b"\n"],
-            Status::Ok,
-            BANK_ACCORDS,
-        ),
-        (
-            [HEAD, WITHDRAW, DEPOSIT, PEEK, b"end\n"],
-            Status::Ok,
-            BANK_ACCORDS,
-        ),
-        (
-            [HEAD, WITHDRAW, LARGE, b"end\n", b""],
-            Status::Ok,
-            BANK_ACCORDS,
-        ),
-        (
-            [BOUNDED, b"", b"", b"", b""],
-            Status::Ok,
-            b"accepted\nguard 0 g\na up no\na down no\nend\n",
-        ),
+fn accepts(rt: HostRuntime) -> Result<(), Fail> {
+    let rows: [([&[u8]; 5], &[u8]); 6] = [
+        ([COUNTER, b"", b"", b"", b""], b"accepted\nend\n"),
+        ([HEAD, WITHDRAW, DEPOSIT, b"end\n", b""], BANK_ACCORDS),
+        ([HEAD, WITHDRAW, DEPOSIT, SCENE, b"\n"], BANK_ACCORDS),
+        ([HEAD, WITHDRAW, DEPOSIT, PEEK, b"end\n"], BANK_ACCORDS),
+        ([HEAD, WITHDRAW, LARGE, b"end\n", b""], BANK_ACCORDS),
+        ([BOUNDED, b"", b"", b"", b""], BOUNDED_ACCORDS),
+    ];
+    for (parts, output) in &rows {
+        let answer = call(&rt, b"check", parts, &[], 4096, &[])?;
+        assert_eq!(rt; answer.status, Status::Ok);
+        assert_eq!(rt; answer.sink.taken(), *output);
+    }
+    Ok(())
+}
+
+#[test]
+fn refuses(rt: HostRuntime) -> Result<(), Fail> {
+    let rows: [([&[u8]; 5], &[u8]); 4] = [
         (
             [HEAD, BLIND, DEPOSIT, b"end\n", b""],
-            Status::Refused,
             b"refused\nplace withdraw 2 invariant\nn = 1\nv.bal = 0\nround 1 bal = 0\nend\n",
         ),
-        (
-            [HEAD, WITHDRAW, DEPOSIT, LATE, b"end\n"],
-            Status::Refused,
-            b"refused\nplace late 4 invariant\nn = 1\nv.bal = 1\nround 1 bal = 1\nround 2 bal = 0\nend\n",
-        ),
+        ([HEAD, WITHDRAW, DEPOSIT, LATE, b"end\n"], LATE_BREACH),
         (
             [STRICT, WITHDRAW, DEPOSIT, b"end\n", b""],
-            Status::Refused,
             b"refused\nplace guard low reflexive\nhere bal = 0\nend\n",
         ),
         (
-            [BELOW, DEPOSIT, b"end\n", b"", b""],
-            Status::Refused,
+            [BELOW, WITHDRAW, DEPOSIT, b"end\n", b""],
             b"refused\nplace initial\nbal = -1\nend\n",
         ),
-        (
-            [b"", b"", b"program\ninvariant x >= 0;\n", b"end\n", b""],
-            Status::Text,
-            b"name 2 11 unknown\n",
-        ),
     ];
-    for (parts, status, output) in &rows {
+    for (parts, output) in &rows {
         let answer = call(&rt, b"check", parts, &[], 4096, &[])?;
-        assert_eq!(rt; answer.status, *status);
+        assert_eq!(rt; answer.status, Status::Refused);
         assert_eq!(rt; answer.sink.taken(), *output);
     }
     Ok(())
@@ -174,7 +162,11 @@ fn tells_an_amount_that_is_too_large(rt: HostRuntime) -> Result<(), Fail> {
 
 #[test]
 fn refuses_bad_texts(rt: HostRuntime) -> Result<(), Fail> {
-    let rows: [([&[u8]; 3], &[u8]); 8] = [
+    let rows: [([&[u8]; 3], &[u8]); 9] = [
+        (
+            [b"program\n", b"invariant x >= 0;\n", b"end\n"],
+            b"name 2 11 unknown\n",
+        ),
         ([b"", b"", b""], b"text 1 1\n"),
         ([b"program\n", b"invariant true;\n", b""], b"text 3 1\n"),
         ([b"program\ncounter c = ", b"05", b";\n"], b"text 2 13\n"),
