@@ -1,0 +1,4 @@
+pub mod Passes
+pub mod Upheld
+pub mod Feeding
+pub mod Wishing

@@ -1,0 +1,4 @@
+pub mod Shorts
+pub mod Histories
+pub mod Feeding
+pub mod Wishes

@@ -1,0 +1,13 @@
+//! Which event may come next in a history, decided in the plainest way: each question is answered
+//! by a pass over the events, with no tables. It is slow, and there to test what is fast.
+#![tactic(auto)]
+
+mod entries;
+mod grants;
+mod history;
+mod links;
+mod session;
+
+pub use entries::{is_held, journal};
+pub use grants::is_live;
+pub use links::is_linked;
