@@ -1,4 +1,5 @@
 pub mod Shorts
 pub mod Histories
+pub mod Arriving
 pub mod Feeding
 pub mod Wishes

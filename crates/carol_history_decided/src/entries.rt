@@ -1,6 +1,6 @@
 ghost use Rattle.std.specs.Prelude.{◌≡◌, List, ◌∷◌, ◌||◌, reverse, IfOk, OnOk};
 ghost use Rattle.carol_event.specs.declared.event.Event.{Event as EventData};
-ghost use Rattle.carol_history.specs.Journals.{is_at, is_held, journal};
+ghost use Rattle.carol_history.specs.Journals.{effect_at, is_at, is_held, journal};
 
 use carol_event::Event;
 use carol_program::Scene;
@@ -29,8 +29,22 @@ fn enter(entries: &mut Vec<AtomList>, event: &Event) -> Result<(), AllocError>
     Ok(())
 }
 
-// The session stands at the replica.
-fn is_at(scene: &Scene, session: u32, replica: u32) -> bool
+/// The effect of the entry; nothing is changed where there is no such entry.
+pub(crate) fn effect_at(
+    alloc: Global,
+    entry: u32,
+    past: &[Event],
+) -> Result<AtomList, AllocError>
+    ensures { IfOk result (λ effect. effect ≡ effect_at entry (reverse past.now)) }
+{
+    match journal(alloc, past)?.get(entry as usize) {
+        Some(effect) => Ok(effect.copy()),
+        None => Ok(AtomList::new(alloc)),
+    }
+}
+
+/// The session stands at the replica.
+pub(crate) fn is_at(scene: &Scene, session: u32, replica: u32) -> bool
     ensures { result ≡ is_at scene.now.sessions session replica }
 {
     match scene.sessions.as_slice().get(session as usize) {

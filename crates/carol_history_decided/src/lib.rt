@@ -7,6 +7,7 @@ mod grants;
 mod history;
 mod links;
 mod session;
+mod stores;
 
 pub use entries::{is_held, journal};
 pub use grants::is_live;
