@@ -1,12 +1,11 @@
 -- What a short run upholds: entries are effects of the shape, and stores have room for them.
-use Rattle.std.proofs.Common.{◌≡◌, ℕ, ◌<◌, ◌≤◌, Bool, true, false, cond, eqb, List, [], ◌∷◌, ◌++◌, length, get_or, refl, subst, arith}
-use Rattle.std.specs.Prelude.{Option, Some, None, unsigned_abs, if◌then◌else◌}
+use Rattle.std.proofs.Common.{◌≡◌, ℕ, ◌<◌, ◌≤◌, Bool, true, false, cond, eqb, List, [], ◌∷◌, ◌++◌, length, refl, subst, arith}
+use Rattle.std.specs.Prelude.{Some, None, unsigned_abs, if◌then◌else◌}
 use Rattle.std.specs.List.{AllByRecursion}
 use Rattle.std.proofs.lemmas.List.Elements.{All-weaker}
 use Rattle.std.proofs.lemmas.Option.{same_Some, slice_get-get_or}
 use Rattle.carol_store.specs.declared.shape.CellKind.{CellKind}
 use Rattle.carol_store.specs.declared.effect.Atom.{Atom}
-use Rattle.carol_store.specs.Actions.{chosen_from}
 use Rattle.carol_store.specs.Effects.{IsEffect}
 use Rattle.carol_store.specs.Kinds.{CellValue}
 use Rattle.carol_store.specs.Laws.{EffectsAddLittle}
@@ -23,6 +22,7 @@ use Rattle.carol_history.specs.Journals.{effect_at, is_at, journal, local}
 use Rattle.carol_history.specs.Laws.{IsLow, StayInWords}
 use Rattle.carol_history.proofs.Actors.{at_place}
 use Rattle.carol_history.proofs.Holdings.{held_within}
+use Rattle.carol_history.proofs.Low.{length-journal}
 use Rattle.carol_reading.specs.Kept.{MayBeKept}
 use Rattle.carol_simulation.specs.Upheld.{MayRun, RunsUphold, Upheld}
 use Rattle.carol_simulation.proofs.Queries.{store_after}
@@ -100,3 +100,7 @@ module _ (law : RunsUphold) (p : Rules) (scene : Scene) (may : MayRun p scene) w
   pub brought_stays : EffectsAddLittle → (replica : ℕ) (event : Event) (past : List Event) → IsShortRun p scene (event ∷ past) → (effect : List Atom) → brought scene replica event past ≡ Some effect → StaysInWords p.shape effect (local p scene replica past)
   brought_stays little replica event past short effect e =
       low_stays little p.shape effect (local p scene replica past) (brought_fits replica event past short effect e) ((upheld past (earlier event past short)).no_fault.local_low replica)
+
+-- there are no more entries than events
+pub few_entries : (p : Rules) (scene : Scene) (past : List Event) → IsShortRun p scene past → length (journal past) ≤ 131_072
+few_entries p scene past short = omega (arith, short.few, length-journal past)

@@ -3,3 +3,4 @@ pub mod Histories
 pub mod Arriving
 pub mod Feeding
 pub mod Wishes
+pub mod Firsts

@@ -3,6 +3,7 @@
 #![tactic(auto)]
 
 mod entries;
+mod firsts;
 mod grants;
 mod history;
 mod links;
