@@ -30,11 +30,7 @@ fn enter(entries: &mut Vec<AtomList>, event: &Event) -> Result<(), AllocError>
 }
 
 /// The effect of the entry; nothing is changed where there is no such entry.
-pub(crate) fn effect_at(
-    alloc: Global,
-    entry: u32,
-    past: &[Event],
-) -> Result<AtomList, AllocError>
+pub(crate) fn effect_at(alloc: Global, entry: u32, past: &[Event]) -> Result<AtomList, AllocError>
     ensures { IfOk result (λ effect. effect ≡ effect_at entry (reverse past.now)) }
 {
     match journal(alloc, past)?.get(entry as usize) {

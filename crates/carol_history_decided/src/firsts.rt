@@ -12,7 +12,7 @@ use crate::history::History;
 use crate::links::is_linked;
 use carol_history::history_laws;
 use carol_simulation::simulation;
-use carol_store::{AtomList, Effect};
+use carol_store::{Atom, Effect};
 use std::alloc::AllocError;
 
 /// The lowest entry that the replica does not hold and the guard does not admit.
@@ -30,7 +30,7 @@ pub(crate) fn first_unsettled(
     let _program = history.accepted.program();
     let entries = journal(history.alloc, history.past)?;
     for (entry, effect) in entries.iter().enumerate() {
-        if !is_settled(history, replica, guard, entry as u32, effect) {
+        if !is_settled(history, replica, guard, entry as u32, effect.as_slice()) {
             return Ok(Some(entry as u32));
         }
     }
@@ -38,13 +38,7 @@ pub(crate) fn first_unsettled(
 }
 
 // The replica holds the entry, or the guard admits it.
-fn is_settled(
-    history: &History,
-    replica: u32,
-    guard: u32,
-    entry: u32,
-    effect: &AtomList,
-) -> bool
+fn is_settled(history: &History, replica: u32, guard: u32, entry: u32, effect: &[Atom]) -> bool
     requires guard { guard < length (rules_of history.now).guards }
     requires effect { effect.now ≡ effect_at entry (past_of history.now) }
     requires fits { IsEffect (rules_of history.now).shape effect.now }
@@ -56,14 +50,14 @@ fn is_settled(
 }
 
 // The guard admits the effect.
-fn admits(history: &History, guard: u32, effect: &AtomList) -> bool
+fn admits(history: &History, guard: u32, effect: &[Atom]) -> bool
     requires guard { guard < length (rules_of history.now).guards }
     requires effect { IsEffect (rules_of history.now).shape effect.now }
     ensures { (result ≡ true) ↔ Admits (rules_of history.now) guard effect.now }
 {
     simulation();
     let shape = &history.accepted.program().shape;
-    let effect = Effect::new(history.alloc, shape, effect.as_slice());
+    let effect = Effect::new(history.alloc, shape, effect);
     history.accepted.accords().admits(shape, guard, &effect)
 }
 
@@ -84,7 +78,7 @@ pub(crate) fn is_out_of_reach(history: &History, replica: u32, entry: u32) -> bo
 
 /// The lowest live grant of another session that does not admit the effect, as its session and its
 /// guard.
-pub(crate) fn first_bar(history: &History, session: u32, effect: &AtomList) -> Option<(u32, u32)>
+pub(crate) fn first_bar(history: &History, session: u32, effect: &[Atom]) -> Option<(u32, u32)>
     requires short { IsShort history.now }
     requires effect { IsEffect (rules_of history.now).shape effect.now }
     ensures { IsFirstBar (rules_of history.now) session effect.now result (past_of history.now) }
@@ -101,7 +95,7 @@ pub(crate) fn first_bar(history: &History, session: u32, effect: &AtomList) -> O
 }
 
 // The lowest guard of the session's live grants that does not admit the effect.
-fn bar_of(history: &History, effect: &AtomList, holder: u32) -> Option<u32>
+fn bar_of(history: &History, effect: &[Atom], holder: u32) -> Option<u32>
     requires short { IsShort history.now }
     requires effect { IsEffect (rules_of history.now).shape effect.now }
     ensures { IsBarOf (rules_of history.now) effect.now holder result (past_of history.now) }

@@ -2,6 +2,7 @@
 //! by a pass over the events, with no tables. It is slow, and there to test what is fast.
 #![tactic(auto)]
 
+mod deciding;
 mod entries;
 mod firsts;
 mod grants;
@@ -10,6 +11,7 @@ mod links;
 mod session;
 mod stores;
 
+pub use deciding::legal;
 pub use entries::{is_held, journal};
 pub use grants::is_live;
 pub use links::is_linked;

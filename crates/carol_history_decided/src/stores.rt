@@ -64,7 +64,9 @@ fn brought(
 {
     match event {
         Event::Issue {
-            session, effect, ..
+            session,
+            effect,
+            ..
         } if is_at(history.scene, *session, replica) => Ok(Some(effect.copy())),
         Event::Deliver { target, entry, .. } if *target == replica => {
             Ok(Some(effect_at(history.alloc, *entry, before)?))

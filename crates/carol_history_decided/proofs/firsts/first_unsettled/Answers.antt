@@ -15,8 +15,8 @@ is_settled-requires-clause-fits c =
     in let may = may_run h.accepted.now.program h.accepted.now.accords h.scene.now c.program-program.ensures.kept c.requires.short.valid
     in let all = entries_fit c.simulation.ensures.uphold (rules_of h) h.scene.now may (past_of h) c.requires.short
     in let there = c.deref-effect-items.result.now
-    in at_place (IsEffect (rules_of h).shape) there c.loop-entry.entry c.effect-item.result (rw (c.deref-effect-items.ensures.value, c.in_ok-entries.ensures) all)
-    (slice_get_read there (length there) c.loop-entry.entry c.effect-item.result refl c.loop-entry-test.true c.effect-item.is)
+    in rw c.as_slice.ensures.items (at_place (IsEffect (rules_of h).shape) there c.loop-entry.entry c.effect-item.result (rw (c.deref-effect-items.ensures.value, c.in_ok-entries.ensures) all)
+    (slice_get_read there (length there) c.loop-entry.entry c.effect-item.result refl c.loop-entry-test.true c.effect-item.is))
 
 pub overflow_cast-result : goal.overflow_cast-result
 overflow_cast-result c = omega (arith, few_entries (rules_of c.args.history.now) c.args.history.now.scene.now (past_of c.args.history.now) c.requires.short, ap length c.in_ok-entries.ensures)

@@ -4,7 +4,7 @@ use Rattle.carol_history_decided.proofs.Upheld.{brought_fits, brought_stays, loc
 use Rattle.carol_history_decided.proofs.stores.arrive.Goals as goal
 
 pub apply-requires : goal.apply-requires
-apply-requires c = 
+apply-requires c =
     let h = c.args.history.now
     in let may = may_run h.accepted.now.program h.accepted.now.accords h.scene.now c.program-program.ensures.kept c.requires.short.valid
     in let brings = sym c.in_ok-effect.ensures ∙ c.in-Some.is
