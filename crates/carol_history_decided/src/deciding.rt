@@ -97,7 +97,14 @@ fn may_query(history: &History, session: u32, guard: u32, store: &Store) -> Resu
         return Ok(false);
     }
     let _program = history.accepted.program();
-    let seen = local(history, home(history.scene, session))?;
+    let replica = home(history.scene, session);
+    let seen = local(
+        history.alloc,
+        history.accepted,
+        history.scene,
+        replica,
+        history.past,
+    )?;
     Ok(have_same(store, &seen))
 }
 

@@ -15,3 +15,4 @@ pub use deciding::legal;
 pub use entries::{is_held, journal};
 pub use grants::is_live;
 pub use links::is_linked;
+pub use stores::{global, local};

@@ -23,6 +23,6 @@ pub returns : goal.returns
 returns c =
     let h = c.args.history.now
     in let is = subst (λ (w : Wish). IsWish (rules_of h) h.scene.now c.args.session w (past_of h)) (c.in-Query.is ∙ ap wish.Query c.if-wished-guard.false) c.in_ok-wished.ensures
-    in let store = local_store (rules_of h) h.scene.now c.program-program.ensures.kept.well_formed.rules.store c.home.result (past_of h)
-    in let told = query_decided (rules_of h) h.scene.now c.args.session (past_of h) c.args.guard is c.home.result c.home.ensures c.args.store.now store
+    in let store = local_store (rules_of h) h.scene.now c.program-program.ensures.kept.well_formed.rules.store c.home-replica.result (past_of h)
+    in let told = query_decided (rules_of h) h.scene.now c.args.session (past_of h) c.args.guard is c.home-replica.result c.home-replica.ensures c.args.store.now store
     in (λ t. told.0 (c.have_same.ensures.0 t ∙ c.in_ok-seen.ensures), λ may. c.have_same.ensures.1 (told.1 may ∙ sym c.in_ok-seen.ensures))

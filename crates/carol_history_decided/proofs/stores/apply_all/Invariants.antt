@@ -3,15 +3,14 @@ use Rattle.std.specs.List.{AllByRecursion}
 use Rattle.carol_store.specs.Effects.{IsEffect}
 use Rattle.carol_store.specs.Stores.{IsStore, apply_all}
 use Rattle.carol_history.specs.Laws.{StayInWords}
-use Rattle.carol_history_decided.specs.Histories.{rules_of}
 use Rattle.carol_history_decided.proofs.stores.apply_all.Given as goal
 
 abbrev pub invariant-loop-effect : goal.invariant-loop-effect
 invariant-loop-effect l = record {
-  store : IsStore (rules_of l.history).shape l.store;
-  effects : AllByRecursion (IsEffect (rules_of l.history).shape) l.left;
-  words : StayInWords (rules_of l.history).shape l.left l.store;
-  whole : apply_all (rules_of l.history).shape l.left l.store ≡ apply_all (rules_of l.history).shape l.effects l.initial.store;
+  store : IsStore l.accepted.program.shape l.store;
+  effects : AllByRecursion (IsEffect l.accepted.program.shape) l.left;
+  words : StayInWords l.accepted.program.shape l.left l.store;
+  whole : apply_all l.accepted.program.shape l.left l.store ≡ apply_all l.accepted.program.shape l.effects l.initial.store;
 }
 
 abbrev pub decreases-loop-effect : goal.decreases-loop-effect
