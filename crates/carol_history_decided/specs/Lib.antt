@@ -4,3 +4,4 @@ pub mod Arriving
 pub mod Feeding
 pub mod Wishes
 pub mod Firsts
+pub mod Illegal

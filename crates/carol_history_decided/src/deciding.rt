@@ -1,11 +1,13 @@
-ghost use Rattle.std.specs.Prelude.{◌≡◌, ◌↔◌, true, reverse, IfOk};
+ghost use Rattle.std.specs.Prelude.{◌≡◌, ◌↔◌, ◌≤◌, true, length, reverse, IfOk};
 ghost use Rattle.carol_program.specs.Rules.{rules_in};
+ghost use Rattle.carol_program.specs.Scenes.{IsValidScene};
 ghost use Rattle.carol_reading.specs.Marks.{Released, Returned};
 ghost use Rattle.carol_event.specs.declared.event.Event.TheVariants.{Refuse};
 ghost use Rattle.carol_history.specs.Acts.{Next};
 ghost use Rattle.carol_history.specs.Legal.{Legal, MayDeliver, MayGrant, MayIssue, MayLink};
 ghost use Rattle.carol_history.specs.Legal.{MayQuery, MayRefuseBarred, MayRefuseBehind};
 ghost use Rattle.carol_history_decided.specs.Histories.{IsShort, past_of, rules_of};
+ghost use Rattle.carol_history_decided.specs.Illegal.{IsFirstIllegal};
 ghost use Rattle.carol_history_decided.specs.Shorts.{IsShortRun};
 
 use crate::entries::{is_held, journal};
@@ -15,6 +17,7 @@ use crate::links::is_linked;
 use crate::session::{home, wish};
 use crate::stores::local;
 use carol_event::{Cause, Event};
+use carol_history::MOST_EVENTS;
 use carol_machine::Wish;
 use carol_program::Scene;
 use carol_reading::Accepted;
@@ -63,6 +66,27 @@ pub fn legal(
         Event::Cut { a, b } => Ok(may_link(scene, *a, *b)),
         Event::Join { a, b } => Ok(may_link(scene, *a, *b)),
     }
+}
+
+/// The number, from 0, of the first event that may not come next after the events before it. `None`
+/// exactly where the program can make the history. The scene is valid for the program, and there are
+/// at most 131,072 events.
+pub fn first_illegal(
+    alloc: Global,
+    accepted: &Accepted,
+    scene: &Scene,
+    events: &[Event],
+) -> Result<Option<usize>, AllocError>
+    requires valid { IsValidScene (rules_in accepted.now.program) scene.now }
+    requires few { length events.now ≤ MOST_EVENTS }
+    ensures { IfOk result (IsFirstIllegal (rules_in accepted.now.program) scene.now events.now) }
+{
+    for (i, event) in events.iter().enumerate() {
+        if !legal(alloc, accepted, scene, event, &events[..i])? {
+            return Ok(Some(i));
+        }
+    }
+    Ok(None)
 }
 
 // A query under the guard is next, it has no live grant, and all entries are settled.

@@ -11,7 +11,7 @@ mod links;
 mod session;
 mod stores;
 
-pub use deciding::legal;
+pub use deciding::{first_illegal, legal};
 pub use entries::{is_held, journal};
 pub use grants::is_live;
 pub use links::is_linked;
