@@ -4,3 +4,5 @@ pub mod RowsHold
 pub mod ClaimsHold
 pub mod Sound
 pub mod Gaps
+pub mod Blocks
+pub mod Left
