@@ -4,10 +4,12 @@ use Rattle.std.specs.Prelude.{ℤ, pos, ◌+ℤ◌}
 use Rattle.std.specs.Borrow.{Bor}
 use Rattle.std.proofs.lemmas.List.{append_assoc, append-nil, map-append}
 use Rattle.carol_formula.specs.Claim.{Claim}
+use Rattle.carol_cert_rows.specs.Cases.{at_most_number, at_least_number}
+use Rattle.carol_cert_rows.specs.Place.{claim_of_item}
 use Rattle.carol_cert_rows.specs.declared.place.Item.{Item}
 use Rattle.carol_cert_rows.specs.declared.place.Item.TheVariants.{Whole, Negative, Positive, AtMost, AtLeast}
 use Rattle.carol_cert.specs.Proof.{Proof}
-use Rattle.carol_cert.specs.Left.{claim_of_branch, claims_below, waiting, waiting_at}
+use Rattle.carol_cert.specs.Left.{bound_of, claim_of_branch, claims_below, waiting, waiting_at}
 
 pub claims_below_pushed : (claims : List Claim) (bs : List (Item × Proof)) (b : Item × Proof) → claims_below claims (bs ++ b ∷ []) ≡ claims_below claims bs ++ claim_of_branch b ∷ []
 claims_below_pushed claims bs b = ap (λ more. claims ++ more) (map-append claim_of_branch bs (b ∷ [])) ∙ sym (append_assoc claims (map claim_of_branch bs) (claim_of_branch b ∷ []))
@@ -38,3 +40,17 @@ turned claims bs v k tree =
     waiting_pushed claims bs (AtMost v k, tree)
     ∙ ap (λ cs. (tree, cs) ∷ waiting claims bs) (sym (claims_below_pushed claims bs high))
     ∙ ap (λ ws. (tree, claims_below claims (bs ++ high ∷ [])) ∷ ws) (sym (waiting_pushed claims bs high))
+
+-- what is left below a branch, once its low side is next
+pub pushed : (claims : List Claim) (old new : List (Item × Proof)) (v : Bor ℕ) (same k : ℤ) (low high : Proof) → new ≡ old ++ (AtMost v same, high) ∷ [] → same ≡ k → (low, claims_below claims new) ∷ waiting claims new ≡ (low, claims_below claims old ++ at_most_number v.now k ∷ []) ∷ (high, claims_below claims old ++ at_least_number v.now (k +ℤ pos 1) ∷ []) ∷ waiting claims old
+pushed claims old new v same k low high e f =
+    ap (λ bs. (low, claims_below claims bs) ∷ waiting claims bs) (e ∙ ap (λ z. old ++ (AtMost v z, high) ∷ []) f)
+    ∙ ap (λ cs. (low, cs) ∷ waiting claims (old ++ (AtMost v k, high) ∷ [])) (claims_below_pushed claims old (AtMost v k, high))
+    ∙ ap (λ ws. (low, claims_below claims old ++ at_most_number v.now k ∷ []) ∷ ws) (waiting_pushed claims old (AtMost v k, high))
+
+pub below_bounds : (claims now : List Claim) (items : List Item) (bs : List (Item × Proof)) → now ≡ claims ++ map claim_of_item items → items ≡ map bound_of bs → now ≡ claims_below claims bs
+below_bounds claims now items bs e f = e ∙ ap (λ more. claims ++ map claim_of_item more) f ∙ ap (λ more. claims ++ more) (both_maps bs)
+  where
+    both_maps : (bs : List (Item × Proof)) → map claim_of_item (map bound_of bs) ≡ map claim_of_branch bs
+    both_maps [] = refl
+    both_maps (b ∷ bs) = ap (λ more. claim_of_branch b ∷ more) (both_maps bs)

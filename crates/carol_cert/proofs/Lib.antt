@@ -6,3 +6,5 @@ pub mod Sound
 pub mod Gaps
 pub mod Blocks
 pub mod Left
+pub mod Walks
+pub mod Trees
