@@ -1,6 +1,6 @@
 -- A walk over a tree that is partly done: what it brought back so far, and what is left.
 use Rattle.std.proofs.Common.{ℕ, ◌≡◌, ◌<◌, ◌≤◌, ◌+◌, ◌-◌, ◌^◌, Bool, true, false, List, [], ◌∷◌, ◌++◌, refl, sym, subst, ◌∙◌, ap, arith}
-use Rattle.std.specs.Prelude.{min, ◌||◌, ◌↔◌, ℤ, pos, ◌+ℤ◌}
+use Rattle.std.specs.Prelude.{◌||◌, ◌↔◌, ℤ, pos, ◌+ℤ◌}
 use Rattle.carol_formula.specs.Bounds.{IsBelow, value_limit}
 use Rattle.carol_formula.specs.Claim.{Claim}
 use Rattle.carol_cert_rows.specs.Cases.{at_most_number, at_least_number}
@@ -68,9 +68,9 @@ down tree claims walk next first v k low high below left stands is sides e = rw 
   turns = (let same = s.turns in omega arith);
   fits = omega arith;
   gap =
-  ap (λ b. b || (has_gap low || (has_gap high || gap_left left))) (or_false walk.has_gap)
-  ∙ ap (λ b. walk.has_gap || b) (sym (or_assoc (has_gap low) (has_gap high) (gap_left left)))
-  ∙ s.gap;
+      ap (λ b. b || (has_gap low || (has_gap high || gap_left left))) (or_false walk.has_gap)
+      ∙ ap (λ b. walk.has_gap || b) (sym (or_assoc (has_gap low) (has_gap high) (gap_left left)))
+      ∙ s.gap;
   size = (let less = s.size in omega arith);
 }
   where
@@ -100,5 +100,5 @@ pub ended : (tree : Proof) (claims : List Claim) (walk : Walked) → Stands tree
 ended tree claims walk s = (
   s.right.1 (tt {0}),
   ap (λ n. record { turns = n; has_gap = walk.has_gap }) (let fits = s.fits in let same = s.turns in omega arith)
-  ∙ ap (λ b. record { turns = counted (turns_of tree); has_gap = b }) (sym (or_false walk.has_gap) ∙ s.gap),
+      ∙ ap (λ b. record { turns = counted (turns_of tree); has_gap = b }) (sym (or_false walk.has_gap) ∙ s.gap),
 )

@@ -1,5 +1,5 @@
 -- The branches that a block holds.
-use Rattle.std.specs.Prelude.{ℕ, zero, suc, ◌≡◌, ◌≤◌, length, List, [], ◌∷◌}
+use Rattle.std.specs.Prelude.{ℕ, suc, ◌≡◌, ◌≤◌, length, List, [], ◌∷◌}
 use Rattle.std.specs.Borrow.{Bor}
 use Rattle.carol_cert_rows.specs.declared.place.Item.{Item}
 use Rattle.carol_cert.specs.declared.tree.Refutation.{Refutation}

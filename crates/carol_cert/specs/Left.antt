@@ -1,9 +1,9 @@
 -- What is left of a walk over a tree: trees, each with the claims at its place.
-use Rattle.std.specs.Prelude.{ℕ, ◌+◌, Bool, false, ◌||◌, List, [], ◌∷◌, ◌++◌, map, ℤ, pos, ◌+ℤ◌}
+use Rattle.std.specs.Prelude.{ℕ, ◌+◌, Bool, false, ◌||◌, List, [], ◌∷◌, ◌++◌, map, pos, ◌+ℤ◌}
 use Rattle.carol_formula.specs.Bounds.{IsBelow, value_limit}
 use Rattle.carol_formula.specs.Claim.{Claim}
 use Rattle.carol_cert_rows.specs.Cases.{at_least_number}
-use Rattle.carol_cert_rows.specs.Place.{claim_of_item, IsItem}
+use Rattle.carol_cert_rows.specs.Place.{claim_of_item}
 use Rattle.carol_cert_rows.specs.declared.place.Item.{Item}
 use Rattle.carol_cert_rows.specs.declared.place.Item.TheVariants.{Whole, Negative, Positive, AtMost, AtLeast}
 use Rattle.carol_cert.specs.Proof.{Proof}

@@ -104,7 +104,13 @@ fn walk(place: &Place<'_>, tree: &Refutation) -> Option<Walked>
             k,
             low,
             high,
-        } => walk_branch(&*place, variable, *k, low.get(), high.get()),
+        } => {
+            if low.get().is_branch() || high.get().is_branch() {
+                walk_branches(&*place, variable, *k, low.get(), high.get())
+            } else {
+                walk_branch(&*place, variable, *k, low.get(), high.get())
+            }
+        }
         Refutation::Rows(steps) => walk_rows(&*place, steps.as_slice()),
         Refutation::Unclosed => Some(Walked {
             turns: 0,
@@ -145,12 +151,35 @@ fn walk_split(place: &Place<'_>, at: u32, left: &Refutation, right: &Refutation)
     }
 }
 
-// The walks over both trees, from the list with the variable at most `k`, and at least `k + 1`. One
-// call serves several branches, each below the one before it, so that a deep tree takes little of
-// the stack: it goes down on the low sides and comes back to the high sides.
+// The walks over both trees, from the list with the variable at most `k`, and at least `k + 1`.
 #[cycle(walk)]
 #[inline(never)]
 fn walk_branch(
+    place: &Place<'_>,
+    variable: &Variable,
+    k: i128,
+    low: &Refutation,
+    high: &Refutation,
+) -> Option<Walked>
+    requires { IsPlace place.now }
+    ensures { let tree = Branch variable.now k (proof_of low.now) (proof_of high.now) in
+        SomeIff result (GoesRight tree (claims_at place.now)) (walked tree) }
+{
+    if !is_below(k, VALUE_LIMIT) {
+        return None;
+    }
+    let next = sum_within(k, 1, VALUE_LIMIT)?;
+    let walk = walk_more(&*place, Item::AtMost(&*variable, k), &*low)?;
+    let other = walk_more(&*place, Item::AtLeast(&*variable, next), &*high)?;
+    Some(walk.and(other).and(TURN))
+}
+
+// The same walks where a branch stands below the branch. One call serves all branches that come one
+// below the other, as many as a block holds, so that a level of them takes little of the stack: it
+// goes down on the low sides and comes back for the high ones.
+#[cycle(walk)]
+#[inline(never)]
+fn walk_branches(
     place: &Place<'_>,
     variable: &Variable,
     k: i128,

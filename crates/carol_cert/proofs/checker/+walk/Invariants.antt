@@ -25,13 +25,16 @@ decreases-walk_split l = 3 * (size_of (proof_of l.left.now) + size_of (proof_of 
 abbrev pub decreases-walk_branch : goal.decreases-walk_branch
 decreases-walk_branch l = 3 * (size_of (proof_of l.low.now) + size_of (proof_of l.high.now)) + 2
 
+abbrev pub decreases-walk_branches : goal.decreases-walk_branches
+decreases-walk_branches l = 3 * (size_of (proof_of l.low.now) + size_of (proof_of l.high.now)) + 2
+
 -- the tree at hand is left, and the high sides that wait
-abbrev pub invariant-walk_branch-loop-tree : goal.invariant-walk_branch-loop-tree
-invariant-walk_branch-loop-tree l = record {
+abbrev pub invariant-walk_branches-loop-tree : goal.invariant-walk_branches-loop-tree
+invariant-walk_branches-loop-tree l = record {
   block : IsBlock l.block;
   stands : Stands (Branch l.fn.variable l.fn.k (proof_of l.fn.low) (proof_of l.fn.high)) (claims_at l.fn.place) l.walked
-  ((proof_of l.tree, claims_below (claims_at l.fn.place) (held l.block)) ∷ waiting (claims_at l.fn.place) (held l.block));
+      ((proof_of l.tree, claims_below (claims_at l.fn.place) (held l.block)) ∷ waiting (claims_at l.fn.place) (held l.block));
 }
 
-abbrev pub decreases-walk_branch-loop-tree : goal.decreases-walk_branch-loop-tree
-decreases-walk_branch-loop-tree l = size_left ((proof_of l.tree, claims_below (claims_at l.fn.place) (held l.block)) ∷ waiting (claims_at l.fn.place) (held l.block))
+abbrev pub decreases-walk_branches-loop-tree : goal.decreases-walk_branches-loop-tree
+decreases-walk_branches-loop-tree l = size_left ((proof_of l.tree, claims_below (claims_at l.fn.place) (held l.block)) ∷ waiting (claims_at l.fn.place) (held l.block))

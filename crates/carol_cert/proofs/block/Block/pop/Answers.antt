@@ -1,7 +1,7 @@
-use Rattle.std.proofs.Common.{◌≡◌, ◌-◌, ◌∷◌, [], ◌++◌, subst, arith}
+use Rattle.std.proofs.Common.{◌-◌, subst, arith}
 use Rattle.carol_cert.specs.Proof.{proof_of}
 use Rattle.carol_cert.specs.Left.{AreSides, IsSide}
-use Rattle.carol_cert.specs.Block.{branches, held}
+use Rattle.carol_cert.specs.Block.{branches}
 use Rattle.carol_cert.proofs.Blocks.{branches_popped, sides_popped}
 use Rattle.carol_cert.proofs.block.Block.pop.Goals as goal
 

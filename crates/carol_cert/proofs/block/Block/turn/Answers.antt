@@ -28,7 +28,7 @@ pub loop-bound-preserved : goal.loop-bound-preserved
 loop-bound-preserved c = record {
   right = c.in-Some.ensures.right;
   same = λ claims.
-    sym (none_waits claims (held c.pop.new.self) c.in-Some.bound (proof_of c.in-Some.tree.now) c.in_default-bound.not-AtMost)
-    ∙ ap (waiting claims) (sym c.in-Some.ensures.held)
-    ∙ c.loop-bound.invariant.same claims;
+      sym (none_waits claims (held c.pop.new.self) c.in-Some.bound (proof_of c.in-Some.tree.now) c.in_default-bound.not-AtMost)
+      ∙ ap (waiting claims) (sym c.in-Some.ensures.held)
+      ∙ c.loop-bound.invariant.same claims;
 }

@@ -1,4 +1,4 @@
-use Rattle.std.proofs.Common.{◌≡◌, ◌∷◌, List}
+use Rattle.std.proofs.Common.{◌≡◌, List}
 use Rattle.carol_formula.specs.Claim.{Claim}
 use Rattle.carol_cert.specs.Left.{waiting}
 use Rattle.carol_cert.specs.Block.{held, IsBlock}
