@@ -7,7 +7,7 @@ use Rattle.std.proofs.lemmas.List.Elements.{All-set, All-append}
 use Rattle.std.proofs.lemmas.Option.{get_or_from_slice_get, slice_get_within}
 use Rattle.carol_formula.specs.Linear.{Linear, times, is_zero}
 use Rattle.carol_formula.specs.Value.{sum_at, value_at}
-use Rattle.carol_formula.specs.Claim.{Claim, Ne, And, Or, truth, is_at_most_zero}
+use Rattle.carol_formula.specs.Claim.{Claim, Ne, And, Or, truth}
 use Rattle.carol_formula.proofs.Claims.{is_at_most_zero_from}
 use Rattle.carol_formula.proofs.Integers.{one-mul, minus_one-mul, mul_assoc}
 use Rattle.carol_cert_rows.specs.Cases.{below_zero, above_zero, at_most_number, at_least_number}

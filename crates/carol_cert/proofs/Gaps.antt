@@ -1,5 +1,5 @@
 -- A tree refutes a list exactly where it goes right and no leaf is unclosed.
-use Rattle.std.proofs.Common.{ℕ, ◌≡◌, Bool, true, false, List, [], ◌∷◌, ◌++◌, refl, sym, ◌∙◌, ap}
+use Rattle.std.proofs.Common.{◌≡◌, Bool, true, false, List, [], ◌∷◌, ◌++◌, refl, sym, ◌∙◌, ap}
 use Rattle.std.specs.Prelude.{Option, Some, None, MatchOption, slice_set, IsTrue, not, ◌||◌, ◌↔◌, pos, ◌+ℤ◌}
 use Rattle.std.proofs.lemmas.Bool.{false≢true}
 use Rattle.carol_formula.specs.Claim.{Claim}

@@ -4,3 +4,7 @@ pub mod RowsHold
 pub mod ClaimsHold
 pub mod Sound
 pub mod Gaps
+pub mod Blocks
+pub mod Left
+pub mod Walks
+pub mod Trees

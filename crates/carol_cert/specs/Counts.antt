@@ -1,5 +1,5 @@
 -- How many turns a tree takes, and which trees are right as far as they go.
-use Rattle.std.specs.Prelude.{ℕ, ◌+◌, ◌≡◌, Bool, true, false, ◌||◌, List, [], ◌∷◌, ◌++◌, Some, MatchOption, slice_get, slice_set, ℤ, pos, ◌+ℤ◌, IsTrue}
+use Rattle.std.specs.Prelude.{ℕ, ◌+◌, ◌≡◌, Bool, true, false, ◌||◌, List, [], ◌∷◌, ◌++◌, Some, MatchOption, slice_get, slice_set, pos, ◌+ℤ◌, IsTrue}
 use Rattle.carol_formula.specs.Bounds.{IsBelow, value_limit}
 use Rattle.carol_formula.specs.Claim.{Claim, False}
 use Rattle.carol_cert_rows.specs.Cases.{at_most_number, at_least_number}

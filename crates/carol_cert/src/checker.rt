@@ -1,5 +1,6 @@
-ghost use Rattle.std.specs.Prelude.{◌≡◌, ◌↔◌, ◌<◌, ◌+◌, ◌^◌, ◌||◌, SomeIff, [], ◌∷◌, ◌++◌, length, map, slice_get, slice_set, IsTrue, IfSome};
+ghost use Rattle.std.specs.Prelude.{◌≡◌, ◌↔◌, ◌<◌, ◌+◌, ◌^◌, ◌||◌, ◌+ℤ◌, pos, SomeIff, [], ◌∷◌, ◌++◌, length, map, slice_get, slice_set, IsTrue, IfSome};
 ghost use Rattle.std.specs.Option.{option_map};
+ghost use Rattle.carol_formula.specs.Bounds.{IsBelow, value_limit};
 ghost use Rattle.carol_formula.specs.Claim.{Claim};
 ghost use Rattle.carol_formula.specs.Tree.{claim_of};
 ghost use Rattle.carol_cert_rows.specs.Place.{claims_at, claim_of_item, IsItem, IsPlace};
@@ -8,6 +9,7 @@ ghost use Rattle.carol_cert.specs.Refutes.{parts_at, sides_at, Refutes, IsNeverT
 ghost use Rattle.carol_cert.specs.Counts.{turns_of, GoesRight, IsUnfinished};
 ghost use Rattle.carol_cert.specs.Walked.{counted, walked};
 
+use crate::block::Block;
 use crate::tree::Refutation;
 use carol_cert_rows::{Item, Place, RowStep, leaf_closes};
 use carol_formula::{Formula, VALUE_LIMIT, Variable, is_below, sum_within};
@@ -102,7 +104,13 @@ fn walk(place: &Place<'_>, tree: &Refutation) -> Option<Walked>
             k,
             low,
             high,
-        } => walk_branch(&*place, variable, *k, low.get(), high.get()),
+        } => {
+            if low.get().is_branch() || high.get().is_branch() {
+                walk_branches(&*place, variable, *k, low.get(), high.get())
+            } else {
+                walk_branch(&*place, variable, *k, low.get(), high.get())
+            }
+        }
         Refutation::Rows(steps) => walk_rows(&*place, steps.as_slice()),
         Refutation::Unclosed => Some(Walked {
             turns: 0,
@@ -166,6 +174,62 @@ fn walk_branch(
     Some(walk.and(other).and(TURN))
 }
 
+// The same walks where a branch stands below the branch. One call serves all branches that come one
+// below the other, as many as a block holds, so that a level of them takes little of the stack: it
+// goes down on the low sides and comes back for the high ones.
+#[cycle(walk)]
+#[inline(never)]
+fn walk_branches(
+    place: &Place<'_>,
+    variable: &Variable,
+    k: i128,
+    low: &Refutation,
+    high: &Refutation,
+) -> Option<Walked>
+    requires { IsPlace place.now }
+    ensures { let tree = Branch variable.now k (proof_of low.now) (proof_of high.now) in
+        SomeIff result (GoesRight tree (claims_at place.now)) (walked tree) }
+{
+    if !has_sides(k) {
+        return None;
+    }
+    let mut block = Block::new(Item::AtMost(&*variable, k), &*high);
+    let mut walked = TURN;
+    let mut tree = &*low;
+    loop {
+        match tree {
+            Refutation::Branch {
+                variable,
+                k,
+                low,
+                high,
+            } if !block.is_full() => {
+                if !has_sides(*k) {
+                    return None;
+                }
+                block.push(Item::AtMost(variable, *k), high.get());
+                walked = walked.and(TURN);
+                tree = low.get();
+            }
+            _ => {
+                let below = walk(&(&*place).more(block.bounds()), tree)?;
+                walked = walked.and(below);
+                match block.turn() {
+                    Some(next) => tree = next,
+                    None => return Some(walked),
+                }
+            }
+        }
+    }
+}
+
+// Whether the numbers of both sides of a branch are below 2^126.
+fn has_sides(k: i128) -> bool
+    ensures { IsTrue result ↔ (IsBelow value_limit k × IsBelow value_limit (k +ℤ pos 1)) }
+{
+    is_below(k, VALUE_LIMIT) && sum_within(k, 1, VALUE_LIMIT).is_some()
+}
+
 // The walk over the tree from the list with an item more.
 #[cycle(walk)]
 #[inline(never)]
@@ -176,7 +240,7 @@ fn walk_more(place: &Place<'_>, item: Item<'_>, tree: &Refutation) -> Option<Wal
         (GoesRight (proof_of tree.now) (claims_at place.now ++ claim_of_item item.entry ∷ []))
         (walked (proof_of tree.now)) }
 {
-    walk(&(&*place).more(item), &*tree)
+    walk(&(&*place).more(slice::from_ref(&item)), &*tree)
 }
 
 // The walk over the tree from the list with an item in place of that at the number.

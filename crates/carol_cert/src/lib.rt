@@ -2,6 +2,7 @@
 //! check.
 #![tactic(auto)]
 
+mod block;
 mod checker;
 mod tree;
 

@@ -186,3 +186,22 @@ fn long_chains_are_checked_and_dropped(rt: HostRuntime) -> Result<(), Fail> {
     }
     Ok(())
 }
+
+#[test]
+fn chains_that_turn_are_checked(rt: HostRuntime) -> Result<(), Fail> {
+    let alloc = rt.alloc();
+    let mut tree = Refutation::Absurd { at: 0 };
+    for level in 0..20_000u32 {
+        let low = Refutation::Absurd { at: 0 };
+        let high = Refutation::Absurd { at: 0 };
+        let beside = branch(alloc, low, high)?;
+        if level % 2 == 0 {
+            tree = branch(alloc, tree, beside)?;
+        } else {
+            tree = branch(alloc, beside, tree)?;
+        }
+    }
+    assert!(rt; check(&Formula::False, &tree));
+    assert!(rt; !check(&Formula::True, &tree));
+    Ok(())
+}

@@ -39,6 +39,11 @@ pub enum Refutation {
 }
 
 impl Refutation {
+    /// Whether the tree is a branch.
+    pub(crate) fn is_branch(&self) -> bool {
+        matches!(self, Refutation::Branch { .. })
+    }
+
     // The tree has trees as its parts.
     fn has_parts(&self) -> bool
         ensures { IsTrue result ↔ (1 < rank_of self.now) }

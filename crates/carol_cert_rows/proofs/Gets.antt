@@ -1,19 +1,17 @@
 -- What stands at a number of a list after a change.
-use Rattle.std.proofs.Common.{◌≡◌, ◌≢◌, ℕ, zero, suc, ◌<◌, List, [], ◌∷◌, ◌++◌, length, refl, ap, arith}
+use Rattle.std.proofs.Common.{◌≡◌, ◌≢◌, ℕ, zero, suc, ◌<◌, ◌+◌, List, [], ◌∷◌, ◌++◌, length, refl, ap, arith}
 use Rattle.std.specs.Prelude.{Some, slice_get, slice_set}
 
 module _ {X : Type 0} where
-  pub slice_get-appended : (xs : List X) (x : X) (i : ℕ) → i ≡ length xs → slice_get (xs ++ x ∷ []) i ≡ Some x
-  slice_get-appended [] x zero e = refl
-  slice_get-appended [] x (suc i) e = absurd (omega arith)
-  slice_get-appended (y ∷ xs) x zero e = absurd (omega arith)
-  slice_get-appended (y ∷ xs) x (suc i) e = slice_get-appended xs x i (omega arith)
+  pub slice_get-front : (xs ys : List X) (i : ℕ) → i < length xs → slice_get (xs ++ ys) i ≡ slice_get xs i
+  slice_get-front [] ys i h = absurd (omega arith)
+  slice_get-front (x ∷ xs) ys zero h = refl
+  slice_get-front (x ∷ xs) ys (suc i) h = slice_get-front xs ys i (omega arith)
 
-  pub slice_get-before : (xs : List X) (x : X) (i : ℕ) → i ≢ length xs → slice_get (xs ++ x ∷ []) i ≡ slice_get xs i
-  slice_get-before [] x zero ne = absurd (ne refl)
-  slice_get-before [] x (suc i) ne = refl
-  slice_get-before (y ∷ xs) x zero ne = refl
-  slice_get-before (y ∷ xs) x (suc i) ne = slice_get-before xs x i (λ e. ne (ap suc e))
+  pub slice_get-back : (xs ys : List X) (i k : ℕ) → i ≡ length xs + k → slice_get (xs ++ ys) i ≡ slice_get ys k
+  slice_get-back [] ys i k e = ap (slice_get ys) (let h : i ≡ 0 + k = e in omega arith)
+  slice_get-back (x ∷ xs) ys zero k e = absurd (omega arith)
+  slice_get-back (x ∷ xs) ys (suc i) k e = slice_get-back xs ys i k (omega arith)
 
   pub slice_get-set_same : (xs : List X) (x : X) (i : ℕ) → i < length xs → slice_get (slice_set xs i x) i ≡ Some x
   slice_get-set_same [] x i h = absurd (omega arith)

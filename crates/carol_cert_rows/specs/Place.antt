@@ -22,16 +22,20 @@ IsItem (AtMost v k) = IsBelow value_limit k
 IsItem (AtLeast v k) = IsBelow value_limit k
 IsItem _ = Unit {0}
 
+abbrev pub AreItems : List Item → Type 0
+AreItems [] = Unit {0}
+AreItems (item ∷ items) = IsItem item × AreItems items
+
 -- a place as plain data
 pub data Changes : Type 0 where
   Root : List Claim → Changes
-  More : ℕ → Item → Changes → Changes
+  More : ℕ → List Item → Changes → Changes
   Replaced : ℕ → Item → Changes → Changes
 
 -- one level, where the place before is seen as plain data
 abbrev pub changes_at : Place-F Changes → Changes
 changes_at (Place-F.Root formulas) = Root (map claim_of formulas.now)
-changes_at (Place-F.More at item before) = More at item before.now
+changes_at (Place-F.More at items before) = More at items.now before.now
 changes_at (Place-F.Replaced at item before) = Replaced at item before.now
 
 abbrev pub changes_of : Place → Changes
@@ -39,7 +43,7 @@ changes_of = fold-Place Changes changes_at
 
 abbrev pub claims_after : Changes → List Claim
 claims_after (Root claims) = claims
-claims_after (More at item before) = claims_after before ++ claim_of_item item ∷ []
+claims_after (More at items before) = claims_after before ++ map claim_of_item items
 claims_after (Replaced at item before) = slice_set (claims_after before) at (claim_of_item item)
 
 -- the claims at a place
@@ -53,7 +57,7 @@ counted n = min n (2 ^ 32)
 -- the numbers of a place are right
 abbrev pub AreRight : Changes → Type 0
 AreRight (Root claims) = Unit {0}
-AreRight (More at item before) = (at ≡ counted (length (claims_after before))) × IsItem item × AreRight before
+AreRight (More at items before) = (at ≡ counted (length (claims_after before))) × AreItems items × AreRight before
 AreRight (Replaced at item before) = (at < length (claims_after before)) × IsItem item × AreRight before
 
 abbrev pub IsPlace : Place → Type 0

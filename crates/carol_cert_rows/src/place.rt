@@ -28,11 +28,11 @@ pub enum Item<'a> {
 pub enum Place<'a> {
     /// The formulas that were given.
     Root(&'a [Formula]),
-    /// The list before with an item more at its end. `at` is the item's number, and 2^32 for each
-    /// item beyond the numbers of a `u32`.
+    /// The list before with more items at its end. `at` is the number of the first of them, and 2^32
+    /// where that is beyond the numbers of a `u32`.
     More {
         at: u64,
-        item: Item<'a>,
+        items: &'a [Item<'a>],
         before: &'a Place<'a>,
     },
     /// The list before with an item in place of that at `at`.
@@ -44,7 +44,7 @@ pub enum Place<'a> {
 }
 
 impl<'a> Place<'a> {
-    ghost use Rattle.carol_cert_rows.specs.Place.{claims_at, claim_of_item, counted, IsItem, IsPlace};
+    ghost use Rattle.carol_cert_rows.specs.Place.{claims_at, claim_of_item, counted, AreItems, IsItem, IsPlace};
 
     /// The place at which the formulas stand as they were given.
     pub fn root(formulas: &'a [Formula]) -> Place<'a>
@@ -54,16 +54,16 @@ impl<'a> Place<'a> {
         Place::Root(formulas)
     }
 
-    /// The place with an item more at the end of its list.
-    pub fn more(&'a self, item: Item<'a>) -> Place<'a>
+    /// The place with more items at the end of its list.
+    pub fn more(&'a self, items: &'a [Item<'a>]) -> Place<'a>
         requires right { IsPlace self.now }
-        requires bounded { IsItem item }
-        ensures claims { claims_at result ≡ claims_at self.now ++ claim_of_item item.entry ∷ [] }
+        requires bounded { AreItems items.now }
+        ensures claims { claims_at result ≡ claims_at self.now ++ map claim_of_item items.now }
         ensures right { IsPlace result }
     {
         Place::More {
             at: self.count(),
-            item,
+            items,
             before: self,
         }
     }
@@ -93,7 +93,9 @@ impl<'a> Place<'a> {
         loop {
             match place {
                 Place::Root(formulas) => return (formulas.len() as u64).min(ITEMS),
-                Place::More { at, .. } => return (*at + 1).min(ITEMS),
+                Place::More { at, items, .. } => {
+                    return at.saturating_add(items.len() as u64).min(ITEMS);
+                }
                 Place::Replaced { before, .. } => place = before,
             }
         }
@@ -116,12 +118,16 @@ impl<'a> Place<'a> {
                     return Some(Item::Whole(&formulas[index]));
                 }
                 Place::More {
-                    at: number,
-                    item,
+                    at: first,
+                    items,
                     before,
                 } => {
-                    if *number == u64::from(at) {
-                        return Some(*item);
+                    if u64::from(at) >= *first {
+                        let index = (u64::from(at) - *first) as usize;
+                        if index >= items.len() {
+                            return None;
+                        }
+                        return Some(items[index]);
                     }
                     place = before;
                 }

@@ -1,8 +1,6 @@
 use Rattle.std.proofs.Common.{map, ap}
-use Rattle.std.specs.Prelude.{Bool, IsTrue, ◌↔◌, not, false}
 use Rattle.carol_formula.specs.Tree.{claim_of}
 use Rattle.carol_cert.specs.Proof.{proof_of}
-use Rattle.carol_cert.specs.Refutes.{Refutes, AreNeverTrue}
 use Rattle.carol_cert.specs.declared.checker.Walked.{Walked}
 use Rattle.carol_cert.proofs.Gaps.{no_gap, no_way}
 use Rattle.carol_cert.proofs.Sound.{never_true}

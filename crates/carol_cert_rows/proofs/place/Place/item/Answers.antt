@@ -1,21 +1,30 @@
-use Rattle.std.proofs.Common.{sym, ap, ◌∙◌, arith}
+use Rattle.std.proofs.Common.{sym, ap, ◌∙◌, ◌-◌, arith}
 use Rattle.std.specs.Option.{option_map}
 use Rattle.std.proofs.lemmas.Option.{slice_get_past, slice_get-get_or}
 use Rattle.carol_formula.specs.Tree.{claim_of}
-use Rattle.carol_cert_rows.proofs.Places.{more_there, more_elsewhere, more_right, replaced_there, replaced_elsewhere, replaced_right, root_at}
+use Rattle.carol_cert_rows.specs.Place.{claim_of_item}
+use Rattle.carol_cert_rows.proofs.Places.{more_there, more_elsewhere, more_right, item_of_items, replaced_there, replaced_elsewhere, replaced_right, root_at}
 use Rattle.carol_cert_rows.proofs.place.Place.item.Goals as goal
 
-pub returns-then-number-from-clause-found : goal.returns-then-number-from-clause-found
-returns-then-number-from-clause-found c =
-    sym (more_there _ _ c.args.at _ _ c.in-More.is (omega arith) (omega arith) c.loop-place.invariant.right) ∙ c.loop-place.invariant.same
+pub returns-then-index-items-clause-found : goal.returns-then-index-items-clause-found
+returns-then-index-items-clause-found c =
+    sym (more_there _ _ c.args.at (c.args.at - c.in-More.first) _ _ c.in-More.is (omega arith) (omega arith) c.loop-place.invariant.right ∙ ap (option_map claim_of_item) (slice_get_past c.in-More.items.now (c.args.at - c.in-More.first) (omega arith)))
+    ∙ c.loop-place.invariant.same
 
-pub returns-then-number-from-clause-bounded : goal.returns-then-number-from-clause-bounded
-returns-then-number-from-clause-bounded c = (more_right _ _ _ _ c.in-More.is c.loop-place.invariant.right).0
+pub returns-then-from-first-clause-found : goal.returns-then-from-first-clause-found
+returns-then-from-first-clause-found c =
+    let k = c.from-then-from-first.result - c.in-More.first in
+    sym (more_there _ _ c.args.at k _ _ c.in-More.is (omega arith) (omega arith) c.loop-place.invariant.right ∙ ap (option_map claim_of_item) (slice_get-get_or c.in-More.items.now k c.index-items-index.result (omega arith)))
+    ∙ c.loop-place.invariant.same
+
+pub returns-then-from-first-clause-bounded : goal.returns-then-from-first-clause-bounded
+returns-then-from-first-clause-bounded c =
+    item_of_items c.in-More.items.now (c.from-then-from-first.result - c.in-More.first) c.index-items-index.result (more_right _ _ _ _ c.in-More.is c.loop-place.invariant.right).0 (omega arith)
 
 pub loop-place-preserved-in-More : goal.loop-place-preserved-in-More
 loop-place-preserved-in-More c = record {
   right = (more_right _ _ _ _ c.in-More.is c.loop-place.invariant.right).1;
-  same = sym (more_elsewhere _ _ c.args.at _ _ c.in-More.is (λ e. c.if-number-from.false (omega arith)) (omega arith) c.loop-place.invariant.right) ∙ c.loop-place.invariant.same;
+  same = sym (more_elsewhere _ _ c.args.at _ _ c.in-More.is (omega arith) c.loop-place.invariant.right) ∙ c.loop-place.invariant.same;
 }
 
 pub returns-then-number-at-clause-found : goal.returns-then-number-at-clause-found
