@@ -4,7 +4,7 @@ use Rattle.std.specs.List.{AllByRecursion}
 use Rattle.carol_formula.specs.Numbers.{number_at}
 use Rattle.carol_program.specs.declared.program.Program.{Program}
 use Rattle.carol_program.specs.declared.places.Place.{Place}
-use Rattle.carol_program.specs.Accords.{Accords}
+use Rattle.carol_program.specs.Accords.{Accords, IsTable}
 use Rattle.carol_program.specs.Preserving.{IsRight}
 use Rattle.carol_program.specs.Rules.{Rules, rules_in}
 use Rattle.carol_reading.specs.Good.{IsAccepted, IsReflexive}
@@ -17,10 +17,12 @@ use Rattle.carol_typecheck.specs.declared.verdict.Verdict.TheVariants as verdict
 use Rattle.carol_accept.specs.declared.refused.Refused.{Refused}
 use Rattle.carol_accept.specs.declared.refused.Refused.TheVariants.{InitialFails, NotReflexive, Fails, Undecided, NoMemory}
 
--- the program is kept, it is accepted, and its table is right and has stores for each no
+-- the program is kept, it is accepted, and its table is right, with an entry for each guard and way, and
+-- has stores for each no
 pub record IsKeptAs (program : Program) (kept : Kept) : Type 0 where
   pub same : kept.program ≡ program
   pub may_be : MayBeKept program kept.accords
+  pub whole : IsTable kept.accords
   pub witnesses : HasWitnesses (rules_in program).shape (rules_in program).guards kept.accords
 
 -- the invariant is true of the initial store

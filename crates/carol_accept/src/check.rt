@@ -8,6 +8,7 @@ ghost use Rattle.carol_accept.specs.Refusals.{
   StartsWell,
 };
 ghost use Rattle.carol_accord.specs.Inferred.{HasWitnesses};
+ghost use Rattle.carol_program.specs.Accords.{IsTable};
 ghost use Rattle.carol_program.specs.Preserving.{IsRight};
 ghost use Rattle.carol_program.specs.Rules.{rules_in};
 ghost use Rattle.carol_program.specs.WellFormed.{AreRules, IsWellFormed};
@@ -40,6 +41,7 @@ fn accept_with<R: Threads + Sync>(
     requires well_formed { IsWellFormed (rules_in program) program.names }
     requires starts { StartsWell (rules_in program) }
     requires right { IsRight (rules_in program).shape (rules_in program).guards accords }
+    requires whole { IsTable accords }
     requires witnesses { HasWitnesses (rules_in program).shape (rules_in program).guards accords }
     requires reflexive { AreReflexive (rules_in program) }
     ensures accepted { IfOk result (IsKeptAs program) }

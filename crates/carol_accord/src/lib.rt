@@ -8,6 +8,7 @@
 ghost use Rattle.std.specs.Prelude.{IfOk, IfErr};
 ghost use Rattle.std.specs.List.{AllByRecursion};
 ghost use Rattle.carol_accord.specs.Inferred.{HasWitnesses, FailsReflexive, StaysUndecided};
+ghost use Rattle.carol_program.specs.Accords.{IsTable};
 ghost use Rattle.carol_program.specs.Preserving.{IsRight};
 ghost use Rattle.carol_program.specs.Rules.{rules_in};
 ghost use Rattle.carol_program.specs.WellFormed.{IsWellFormed};
@@ -28,7 +29,8 @@ use std::alloc::Global;
 
 /// The accords of the program's guards. The guards are looked at in order: whether a guard is true of any two equal
 /// stores, and then each step, by cell, up before down. `NotReflexive` and `Undecided` name the first of these that
-/// isn't proved. The invariant isn't assumed. The program is well formed.
+/// isn't proved. The invariant isn't assumed. The program is well formed. The table has an entry for each guard
+/// and step.
 pub fn infer(alloc: Global, program: &Program) -> Result<AccordTable, AccordError>
     requires { IsWellFormed (rules_in program.now) program.now.names }
     ensures right { let p = rules_in program.now in IfOk result (IsRight p.shape p.guards) }
@@ -36,6 +38,7 @@ pub fn infer(alloc: Global, program: &Program) -> Result<AccordTable, AccordErro
         in IfOk result (λ _. AllByRecursion (IsReflexive p) p.guards) }
     ensures witnesses { let p = rules_in program.now
         in IfOk result (HasWitnesses p.shape p.guards) }
+    ensures whole { IfOk result IsTable }
     ensures not_reflexive { IfErr result (FailsReflexive (rules_in program.now)) }
     ensures undecided { IfErr result (StaysUndecided (rules_in program.now)) }
 {

@@ -8,7 +8,7 @@ use Rattle.carol_resolve_meaning.specs.declared.fault.NameKind.TheVariants.{Twic
 use Rattle.carol_resolve_meaning.specs.declared.fault.Fault.{Fault}
 use Rattle.carol_resolve_meaning.specs.Faults.{IsFirst, IsOf, is_before, rank}
 use Rattle.carol_tool.specs.declared.reply.Line.TheVariants as line
-use Rattle.carol_tool.specs.Step.{name_line}
+use Rattle.carol_tool.specs.Told.{name_line}
 
 -- the kind with a rank
 kind_of : ℕ → NameKind

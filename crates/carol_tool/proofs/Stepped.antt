@@ -2,6 +2,12 @@
 use Rattle.std.proofs.Common.{◌≡◌, ◌≤◌, List, ℕ, [], length, refl, sym, ◌∙◌, ap, subst, inl, inr, arith}
 use Rattle.std.specs.Prelude.{Option, Some, None, IfSome, IsSomeAnd, Result, Ok, Err, IfOk}
 use Rattle.std.specs.declared.alloc.AllocError.{AllocError}
+use Rattle.carol_parse.specs.Answer.{IsMeant, IsOnlyMeant}
+use Rattle.carol_parse.specs.declared.error.TextError.{TextError}
+use Rattle.carol_plain_history.specs.Scripts.{Scripted}
+use Rattle.carol_plain_history.specs.Setup.{Setup}
+use Rattle.carol_resolve.specs.declared.error.NameError.{NameError}
+use Rattle.carol_resolve.specs.declared.error.NameError.TheVariants.{Wrong}
 use Rattle.carol_resolve_meaning.specs.declared.fault.Fault.{Fault}
 use Rattle.carol_resolve_meaning.specs.Faults.{IsFirst}
 use Rattle.carol_resolve_meaning.specs.Programs.{program_faults}
@@ -9,15 +15,64 @@ use Rattle.carol_scenario.specs.declared.error.SceneError.{SceneError}
 use Rattle.carol_scenario.specs.Faults.{first_of}
 use Rattle.carol_syntax.specs.declared.scenes.SceneDecl.{SceneDecl}
 use Rattle.carol_syntax.specs.Files.{FileTree}
-use Rattle.carol_syntax_meaning.specs.Outcome.{Outcome, Means}
-use Rattle.carol_parse.specs.declared.error.TextError.{TextError}
-use Rattle.carol_parse.specs.Answer.{IsMeant, IsOnlyMeant}
+use Rattle.carol_syntax_meaning.specs.Outcome.{Outcome, Read, Means}
+use Rattle.carol_tool.specs.Answer.{IsOwn, IsReply}
+use Rattle.carol_tool.specs.declared.command.Command.TheVariants as command
 use Rattle.carol_tool.specs.declared.reply.Line.TheVariants as line
 use Rattle.carol_tool.specs.declared.reply.Reply.{Reply}
-use Rattle.carol_tool.specs.Reply.{RepliesBy, answer_of}
-use Rattle.carol_tool.specs.Step.{FileSays, HasParts, IsPlain, NameSays, OutcomeSays, PlainSays, SceneSays, StepSays, faults_of, name_line}
+use Rattle.carol_tool.specs.Reply.{IsSole, RepliesBy, answer_of}
+use Rattle.carol_tool.specs.Step.{FileSays, HasParts, IsPlain, NameSays, PlainSays, SceneSays, StepSays, faults_of, script_answer}
 use Rattle.carol_tool.specs.Texts.{Answer, line_answer}
-use Rattle.carol_tool.proofs.Firsts.{first_line, first_none}
+use Rattle.carol_tool.specs.Told.{name_answer, text_answer}
+use Rattle.carol_tool.proofs.Firsts.{first_none}
+use Rattle.carol_tool.proofs.Outcomes.{bound_of_file, sole_of_error, sole_of_names}
+use Rattle.carol_tool.proofs.Replies.{agree_same, bytes_own, names_own}
+
+-- ---- statuses of its own alone
+
+script_own : (setup : Setup) (script : Scripted) → IsOwn (script_answer setup script).0
+script_own setup script = elim script.bad as (λ bad. IsOwn (script_answer setup (record script { bad = bad })).0) [
+  | Some bad ↦ tt
+  | None ↦ tt
+]
+
+plain_own : (file : FileTree) (answer : Answer) → PlainSays file answer → IsOwn answer.0
+plain_own file answer (inl h) = subst (λ a. IsOwn a.0) (sym h.1) tt
+plain_own file answer (inr h) = subst (λ a. IsOwn a.0) h.outcome (script_own _ _)
+
+scene_own : (file : FileTree) (scene : SceneDecl) (answer : Answer) → SceneSays file scene answer → IsOwn answer.0
+scene_own file scene answer (inl h) = subst (λ a. IsOwn a.0) (sym h.2) tt
+scene_own file scene answer (inr h) = plain_own file answer h.1
+
+file_own : (file : FileTree) (answer : Answer) → FileSays file answer → IsOwn answer.0
+file_own file answer (inl h) = subst (λ a. IsOwn a.0) (sym h.1) tt
+file_own file answer (inr h) = names_own (SceneSays file h.1.0) (scene_own file h.1.0) file.program answer h.1.2
+
+-- ---- replies
+
+-- the only answer to the bytes is the reply to them
+reply_of : (bytes : List ℕ) (answer : Answer) → IsSole (StepSays bytes) answer → IsReply command.Step bytes answer
+reply_of bytes answer h = record {
+  own = bytes_own FileSays file_own bytes answer h.has;
+  says = h.has;
+  fixed = λ other p. agree_same command.Step other answer (h.only other p);
+}
+
+-- the bytes are a file
+pub step_of_file : (file : FileTree) (bytes : List ℕ) (r : Result Reply AllocError) → Means bytes (Read file)
+    → ((o : Outcome) → Means bytes o → o ≡ Read file) → RepliesBy (FileSays file) r → IfOk r (λ reply. IsReply command.Step bytes (answer_of reply))
+step_of_file file bytes (Ok reply) m once h =
+    let bound = bound_of_file ◌≡◌ FileSays file bytes (answer_of reply) m once (record { has = h.has; only = h.only }) in
+    reply_of bytes (answer_of reply) (record { has = bound.has; only = bound.only })
+step_of_file file bytes (Err e) m once h = tt
+
+-- they aren't read
+pub step_of_error : (bytes : List ℕ) (error : TextError) (r : Result Reply AllocError) → IsMeant bytes (Err error) → IsOnlyMeant bytes (Err error)
+    → IfOk r (λ reply. text_answer error ≡ Some (answer_of reply)) → IfOk r (λ reply. IsReply command.Step bytes (answer_of reply))
+step_of_error bytes error (Ok reply) m once h = reply_of bytes (answer_of reply) (sole_of_error FileSays bytes error (answer_of reply) m once h)
+step_of_error bytes error (Err e) m once h = tt
+
+-- ---- files
 
 -- what two answers of an option are
 some_same : (a b : SceneError) → Some a ≡ Some b → a ≡ b
@@ -37,15 +92,6 @@ sole_reply P said (Ok reply) has only h = record {
   only = λ other p. only other p ∙ sym h;
 }
 sole_reply P said (Err e) has only h = tt
-
--- the only answer to what the bytes alone mean is the only answer to the bytes
-pub sole_of_bytes : (o : Outcome) (bytes : List ℕ) (r : Result Reply AllocError) → Means bytes o
-    → ((other : Outcome) → Means bytes other → other ≡ o) → RepliesBy (OutcomeSays o) r → RepliesBy (StepSays bytes) r
-sole_of_bytes o bytes (Ok reply) m once h = record {
-  has = (o, m, h.has);
-  only = λ answer p. h.only answer (subst (λ x. OutcomeSays x answer) (once p.0 p.1) p.2);
-}
-sole_of_bytes o bytes (Err e) m once h = tt
 
 -- a file that is not in the plain form
 pub sole_not_plain : (file : FileTree) (r : Result Reply AllocError) → (IsPlain file → ⊥)
@@ -84,15 +130,11 @@ sole_right_scene file scene (Ok reply) none h = record {
 sole_right_scene file scene (Err e) none h = tt
 
 -- a program with a fault, and one without
-pub sole_bad_name : (file : FileTree) (scene : SceneDecl) (bad : Fault) (r : Result Reply AllocError)
-    → IsFirst bad (program_faults file.program)
-    → IfOk r (λ reply. answer_of reply ≡ line_answer (name_line bad)) → RepliesBy (NameSays file scene) r
-sole_bad_name file scene bad r first =
-    sole_reply (NameSays file scene) (line_answer (name_line bad)) r (inl (bad, first, refl)) only
-  where
-    only : (other : Answer) → NameSays file scene other → other ≡ line_answer (name_line bad)
-    only other (inl h) = h.2 ∙ ap line_answer (first_line h.0 bad (program_faults file.program) h.1 first)
-    only other (inr h) = absurd (first_none bad (subst (IsFirst bad) h.0 first))
+pub sole_bad_name : (file : FileTree) (scene : SceneDecl) (error : NameError) (r : Result Reply AllocError)
+    → ((f : Fault) → error ≡ Wrong f.kind f.name f.span → IsFirst f (program_faults file.program))
+    → IfOk r (λ reply. name_answer error ≡ Some (answer_of reply)) → RepliesBy (NameSays file scene) r
+sole_bad_name file scene error (Ok reply) first h = sole_of_names (SceneSays file scene) file.program error (answer_of reply) first h
+sole_bad_name file scene error (Err e) first h = tt
 
 pub sole_right_names : (file : FileTree) (scene : SceneDecl) (r : Result Reply AllocError)
     → program_faults file.program ≡ [] → RepliesBy (SceneSays file scene) r → RepliesBy (NameSays file scene) r
@@ -118,12 +160,6 @@ sole_whole file scene (Ok reply) is has h = record {
     only other (inl g) = absurd (g.0 has)
     only other (inr g) = h.only other (subst (λ s. NameSays file s other) (some_same_scene g.1.0 scene (sym g.1.1 ∙ is)) g.1.2)
 sole_whole file scene (Err e) is has h = tt
-
--- what a refusal says of the bytes
-pub refused_so : (bytes : List ℕ) (e told : TextError) → e ≡ told → IsMeant bytes (Err e) → IsOnlyMeant bytes (Err e)
-    → IsMeant bytes (Err told) × IsOnlyMeant bytes (Err told)
-refused_so bytes e told is m once =
-    (subst (λ x. IsMeant bytes (Err x)) is m, subst (λ x. IsOnlyMeant bytes (Err x)) is once)
 
 -- what is no longer than a list is within its bound
 pub within_list : {A : Type 0} (o : Option (List A)) (n m : ℕ) → IsSomeAnd o (λ xs. n ≤ length xs) → IfSome o (λ xs. length xs ≤ m) → n ≤ m

@@ -2,8 +2,8 @@
 use Rattle.std.specs.Prelude.{◌≡◌, ◌⊎◌, ◌<◌, ◌≤◌, ℕ, List, Option, Some, None, [], length, take}
 use Rattle.std.specs.Io.KnownBytes.{Consumes, Appends, IsAtEnd}
 use Rattle.carol_outer.specs.Faults.{Rose}
-use Rattle.carol_tool.specs.Says.{Says, ReadsAll, FixesStatus, FixesText}
-use Rattle.carol_tool.specs.Texts.{stop_answer}
+use Rattle.carol_tool.specs.Says.{Agree, Says, ReadsAll}
+use Rattle.carol_tool.specs.Texts.{Answer, stop_answer}
 use Rattle.carol_tool.specs.Words.{command_of}
 use Rattle.carol_syntax.specs.Limits.{most_text_bytes}
 use Rattle.carol_tool.specs.declared.command.Command.{Command}
@@ -29,6 +29,13 @@ IsOwn status.NoMemory = ⊥
 IsOwn status.TooLong = ⊥
 IsOwn meant = Unit {0}
 
+-- A reply of the command to these bytes, which has a status of its own: it is what they mean, and what
+-- else they mean agrees with it.
+pub record IsReply (command : Command) (bytes : List ℕ) (answer : Answer) : Type 0 where
+  pub own : IsOwn answer.0
+  pub says : Says command bytes answer.0 answer.1
+  pub fixed : (other : Answer) → Says command bytes other.0 other.1 → Agree command other answer
+
 -- Of these bytes and this source the command makes this status and this text. A fault of the
 -- source, and want of memory, may come in the place of any other answer.
 abbrev pub Means : Command → List ℕ → End → End → Status → List ℕ → Type 0
@@ -47,12 +54,10 @@ Means command bytes old new meant text = (length bytes ≤ most_text_bytes) × S
 pub record Done (command : Command) (bytes : List ℕ) (old new : End) (meant : Status)
     (text : List ℕ) : Type 0 where
   pub means : Means command bytes old new meant text
-  -- with a status of its own it has read all bytes, and they mean no other status nor another text
+  -- with a status of its own it has read all bytes, and what else they mean agrees with it
   pub whole : IsOwn meant → ReadsAll command → IsAtEnd new.bytes
-  pub status_fixed : IsOwn meant → FixesStatus command → (s : Status) (t : List ℕ)
-      → Says command bytes s t → s ≡ meant
-  pub text_fixed : IsOwn meant → FixesText command meant → (t : List ℕ) → Says command bytes meant t
-      → t ≡ text
+  pub fixed : IsOwn meant → (other : Answer) → Says command bytes other.0 other.1
+      → Agree command other (meant, text)
 
 -- words that are no command are answered with the usage, and nothing is read
 abbrev pub Comes : Option Command → List ℕ → End → End → Status → List ℕ → Type 0

@@ -1,6 +1,8 @@
 pub mod Words
 pub mod Texts
 pub mod Reply
+pub mod Told
+pub mod Check
 pub mod Step
 pub mod Says
 pub mod Answer

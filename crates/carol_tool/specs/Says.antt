@@ -1,6 +1,8 @@
 -- What the bytes mean to a command.
-use Rattle.std.specs.Prelude.{List, ℕ}
+use Rattle.std.specs.Prelude.{◌≡◌, List, ℕ}
+use Rattle.carol_tool.specs.Check.{CheckSays}
 use Rattle.carol_tool.specs.Step.{StepSays}
+use Rattle.carol_tool.specs.Texts.{Answer}
 use Rattle.carol_tool.specs.declared.command.Command.{Command}
 use Rattle.carol_tool.specs.declared.command.Command.TheVariants as command
 use Rattle.carol_tool.specs.declared.status.Status.{Status}
@@ -8,18 +10,29 @@ use Rattle.carol_tool.specs.declared.status.Status.TheVariants as status
 
 -- to the command the bytes mean this status and this text
 abbrev pub Says : Command → List ℕ → Status → List ℕ → Type 0
+Says command.Check bytes meant text = CheckSays bytes (meant, text)
 Says command.Step bytes meant text = StepSays bytes (meant, text)
 
 -- the command reads its whole input
 abbrev pub ReadsAll : Command → Type 0
+ReadsAll command.Check = Unit {0}
 ReadsAll command.Step = Unit {0}
 
--- the bytes fix the status
-abbrev pub FixesStatus : Command → Type 0
-FixesStatus command.Step = Unit {0}
+-- of these statuses of the command the bytes fix one; where it tells that something stays undecided,
+-- it might have been decided too
+abbrev pub FixesStatus : Command → Status → Type 0
+FixesStatus command.Check status.Undecided = ⊥
+FixesStatus command.Check meant = Unit {0}
+FixesStatus command.Step meant = Unit {0}
 
 -- and the text, but for one that shows a witness, of which there may be others
 abbrev pub FixesText : Command → Status → Type 0
 FixesText command status.Refused = ⊥
 FixesText command status.Undecided = ⊥
-FixesText command meant = FixesStatus command
+FixesText command meant = FixesStatus command meant
+
+-- Two answers to the same bytes: they have one status where the bytes fix both, and with one status
+-- one text, where the bytes fix that.
+pub record Agree (command : Command) (other answer : Answer) : Type 0 where
+  pub status : FixesStatus command other.0 → FixesStatus command answer.0 → other.0 ≡ answer.0
+  pub text : FixesText command answer.0 → other.0 ≡ answer.0 → other.1 ≡ answer.1

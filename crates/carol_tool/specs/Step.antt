@@ -2,12 +2,9 @@
 use Rattle.std.specs.Prelude.{◌≡◌, ◌⊎◌, List, ℕ, [], Some, None, IsSome}
 use Rattle.carol_syntax.specs.declared.scenes.SceneDecl.{SceneDecl}
 use Rattle.carol_syntax.specs.Files.{FileTree, ProgramTree}
-use Rattle.carol_resolve_meaning.specs.declared.fault.Fault.{Fault}
-use Rattle.carol_resolve_meaning.specs.Faults.{IsFirst}
-use Rattle.carol_resolve_meaning.specs.Programs.{program_faults, rules_of, names_of}
+use Rattle.carol_resolve_meaning.specs.Programs.{rules_of, names_of}
 use Rattle.carol_scenario.specs.declared.error.SceneError.{SceneError}
 use Rattle.carol_scenario.specs.Faults.{scene_faults, first_of}
-use Rattle.carol_syntax_meaning.specs.Outcome.{Outcome, Read, Bad, Large, Means as TextMeans}
 use Rattle.carol_plain_history.specs.Setup.{Setup}
 use Rattle.carol_plain_history.specs.Scripts.{Scripted, scripted}
 use Rattle.carol_plain.specs.declared.input.PlainInput.{PlainInput}
@@ -15,8 +12,8 @@ use Rattle.carol_plain.specs.Plain.{Stands}
 use Rattle.carol_plain.specs.Start.{setup_of}
 use Rattle.carol_plain_report.specs.Report.{report_text}
 use Rattle.carol_tool.specs.Texts.{Answer, line_answer}
+use Rattle.carol_tool.specs.Told.{BytesSay, NamesSay}
 use Rattle.carol_tool.specs.declared.command.Command.TheVariants as command
-use Rattle.carol_tool.specs.declared.reply.Line.{Line}
 use Rattle.carol_tool.specs.declared.reply.Line.TheVariants as line
 use Rattle.carol_tool.specs.declared.status.Status.TheVariants as status
 
@@ -54,15 +51,9 @@ SceneSays file scene answer =
     ((bad : SceneError) × (first_of (faults_of file.program scene) ≡ Some bad) × (answer ≡ line_answer (line.BadScene bad)))
     ⊎ ((faults_of file.program scene ≡ []) × PlainSays file answer)
 
--- the line that names a fault of the program
-abbrev pub name_line : Fault → Line
-name_line bad = line.BadName bad.span.line bad.span.column bad.kind
-
 -- the answer to a file with all its parts: the first fault of the program's names, if there is one
 abbrev pub NameSays : FileTree → SceneDecl → Answer → Type 0
-NameSays file scene answer =
-    ((bad : Fault) × IsFirst bad (program_faults file.program) × (answer ≡ line_answer (name_line bad)))
-    ⊎ ((program_faults file.program ≡ []) × SceneSays file scene answer)
+NameSays file scene answer = NamesSay (SceneSays file scene) file.program answer
 
 -- a scene and a script stand behind the program
 abbrev pub HasParts : FileTree → Type 0
@@ -74,12 +65,6 @@ FileSays file answer =
     ((HasParts file → ⊥) × (answer ≡ line_answer (line.PartMissing command.Step)))
     ⊎ (HasParts file × ((scene : SceneDecl) × (file.scene ≡ Some scene) × NameSays file scene answer))
 
--- the answer to what reading the bytes came to
-abbrev pub OutcomeSays : Outcome → Answer → Type 0
-OutcomeSays (Read file) answer = FileSays file answer
-OutcomeSays (Bad row column) answer = answer ≡ line_answer (line.BadText row column)
-OutcomeSays (Large limit) answer = answer ≡ line_answer (line.TooLarge limit)
-
 -- the answer to the bytes
 abbrev pub StepSays : List ℕ → Answer → Type 0
-StepSays bytes answer = (outcome : Outcome) × TextMeans bytes outcome × OutcomeSays outcome answer
+StepSays bytes answer = BytesSay FileSays bytes answer

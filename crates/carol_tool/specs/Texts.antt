@@ -1,5 +1,6 @@
 -- The texts of the statuses, each ended by a line feed. With Ok a command says a text of its own,
--- `step` a report; with WriteFault a part of another text was written.
+-- `check` the accords and `step` a report, and with Refused and Undecided a verdict; with WriteFault a
+-- part of another text was written.
 use Rattle.std.specs.Prelude.{List, ℕ, ◌++◌, codes, decimal}
 use Rattle.carol_plain_history.specs.declared.script.ScriptCause.{ScriptCause}
 use Rattle.carol_plain_history.specs.declared.script.ScriptCause.TheVariants as cause
@@ -42,6 +43,7 @@ stop_of read.TooLong = stop.TooLong
 stop_of read.NoMemory = stop.NoMemory
 
 abbrev pub command_word : Command → List ℕ
+command_word command.Check = codes "check"
 command_word command.Step = codes "step"
 
 abbrev pub limit_name : TextLimit → List ℕ

@@ -1,17 +1,19 @@
-ghost use Rattle.std.specs.Prelude.{◌≡◌, ◌≢◌, ◌↔◌, ◌≤◌, [], ◌∷◌, IsTrue, codes};
+ghost use Rattle.std.specs.Prelude.{◌≡◌, ◌≢◌, ◌↔◌, ◌≤◌, [], ◌∷◌, length, IsTrue, IfOk, codes};
 ghost use Rattle.carol_outer.specs.Faults.{Rose};
-ghost use Rattle.carol_tool.specs.Answer.{Answered, Meant, Wrote, end_of};
-ghost use Rattle.carol_tool.specs.Reply.{outcome_answer};
+ghost use Rattle.carol_syntax.specs.Limits.{most_text_bytes};
+ghost use Rattle.carol_tool.specs.Answer.{Answered, IsReply, Meant, Wrote, end_of};
+ghost use Rattle.carol_tool.specs.Reply.{answer_of, outcome_answer};
 ghost use Rattle.carol_tool.specs.Texts.{stop_answer};
 ghost use Rattle.carol_tool.specs.Words.{texts};
 
+use super::check::check;
 use super::command::{Command, command_of};
 use super::reply::{Reply, Stop};
 use super::status::Status;
 use super::step::step;
 use carol_outer::{Gate, Sink, Source, read_all, write_all};
 use carol_syntax::MOST_TEXT_BYTES;
-use std::alloc::Global;
+use std::alloc::{AllocError, Global};
 use std::sync::Wait;
 use std::thread::Threads;
 
@@ -19,7 +21,7 @@ use std::thread::Threads;
 /// source, writes one text to the sink and answers the status. `ReadFault` and `WriteFault` come
 /// only where the source or the sink counted a fault. It waits for nobody.
 pub fn plain<R: Threads + Sync, S: Source, K: Sink>(
-    _rt: &R,
+    rt: &R,
     alloc: Global,
     words: &[Vec<u8>],
     source: &mut S,
@@ -37,7 +39,7 @@ pub fn plain<R: Threads + Sync, S: Source, K: Sink>(
     ensures write_fault { result ≡ Status.WriteFault
         → Rose (K.faults sink.old) (K.faults sink.new) }
 {
-    match reply(alloc, words, source) {
+    match reply(rt, alloc, words, source) {
         Ok(reply) => say(sink, reply.status, &reply.text),
         Err(stop) => say(sink, stop.status(), stop.text()),
     }
@@ -82,7 +84,12 @@ fn is_word(words: &[Vec<u8>], word: &[u8]) -> bool
 }
 
 // Does what the words say, with what the source gives.
-fn reply<S: Source>(alloc: Global, words: &[Vec<u8>], source: &mut S) -> Result<Reply, Stop>
+fn reply<R: Threads + Sync, S: Source>(
+    rt: &R,
+    alloc: Global,
+    words: &[Vec<u8>],
+    source: &mut S,
+) -> Result<Reply, Stop>
     ensures { let answer = outcome_answer result in
         Meant (texts words.now)
         (end_of (S.left source.old) (S.faults source.old))
@@ -91,8 +98,22 @@ fn reply<S: Source>(alloc: Global, words: &[Vec<u8>], source: &mut S) -> Result<
 {
     let command = command_of(words).ok_or(Stop::Usage)?;
     let bytes = read_all(alloc, source, MOST_TEXT_BYTES)?;
+    Ok(command_reply(rt, alloc, command, &bytes)?)
+}
+
+// Does the command on these bytes.
+fn command_reply<R: Threads + Sync>(
+    rt: &R,
+    alloc: Global,
+    command: Command,
+    bytes: &[u8],
+) -> Result<Reply, AllocError>
+    requires { length bytes.now ≤ most_text_bytes }
+    ensures { IfOk result (λ reply. IsReply command bytes.now (answer_of reply)) }
+{
     match command {
-        Command::Step => Ok(step(alloc, &bytes)?),
+        Command::Check => check(rt, alloc, bytes),
+        Command::Step => step(alloc, bytes),
     }
 }
 

@@ -7,6 +7,8 @@ use std::fmt;
 /// What the program is asked to do.
 #[derive(Clone, Copy, Debug, PartialEq, Eq)]
 pub enum Command {
+    /// To say whether the program of a file is accepted.
+    Check,
     /// To carry out the script of a file.
     Step,
 }
@@ -16,6 +18,7 @@ impl fmt::Display for Command {
 
     fn fmt<W: fmt::Write>(&self, f: &mut fmt::Formatter<W>) -> fmt::Result {
         match self {
+            Command::Check => write!(f, "check"),
             Command::Step => write!(f, "step"),
         }
     }
@@ -35,6 +38,9 @@ pub(crate) fn command_of(words: &[Vec<u8>]) -> Option<Command>
 fn command_named(word: &[u8]) -> Option<Command>
     ensures { result ≡ command_of (word.now ∷ []) }
 {
+    if word == b"check".as_slice() {
+        return Some(Command::Check);
+    }
     if word == b"step".as_slice() {
         return Some(Command::Step);
     }

@@ -2,12 +2,16 @@
 #![tactic(auto)]
 
 mod call;
+mod check;
+#[cfg(test)]
+mod check_tests;
 mod command;
 mod reply;
 mod status;
 mod step;
 #[cfg(test)]
 mod tests;
+mod told;
 
 pub use call::{carol, plain};
 pub use status::{Status, number};

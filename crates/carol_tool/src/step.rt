@@ -10,18 +10,20 @@ ghost use Rattle.carol_syntax.specs.Shape.{IsProgram};
 ghost use Rattle.carol_syntax.specs.Size.{IsSizedProgram};
 ghost use Rattle.carol_syntax.specs.Limits.{most_text_bytes};
 ghost use Rattle.carol_plain.specs.Start.{setup_of};
+ghost use Rattle.carol_tool.specs.Answer.{IsReply};
 ghost use Rattle.carol_tool.specs.Reply.{RepliesBy, answer_of};
-ghost use Rattle.carol_tool.specs.Step.{StepSays, FileSays, NameSays, PlainSays, SceneSays, script_answer};
+ghost use Rattle.carol_tool.specs.Step.{FileSays, NameSays, PlainSays, SceneSays, script_answer};
 
 use super::command::Command;
 use super::reply::{Line, Reply, one_line};
 use super::status::Status;
-use carol_plain_house::{MOST_EVENTS, PlainHouse, Played, run_script};
-use carol_parse::{TextError, parse};
+use super::told::{bad_name, bad_text};
+use carol_parse::parse;
 use carol_plain::{PlainError, PlainInput, plain_input};
-use carol_program::Program;
+use carol_plain_house::{MOST_EVENTS, PlainHouse, Played, run_script};
 use carol_plain_report::report;
-use carol_resolve::{NameError, resolve};
+use carol_program::Program;
+use carol_resolve::resolve;
 use carol_scenario::{SceneError, scene};
 use carol_store::{CellKind, Shape, Store};
 use carol_syntax::{File, SceneDecl};
@@ -30,13 +32,11 @@ use std::alloc::{AllocError, Global};
 /// Reads a program, a scene and a script, and says what the script's history is.
 pub(crate) fn step(alloc: Global, bytes: &[u8]) -> Result<Reply, AllocError>
     requires { length bytes.now ≤ most_text_bytes }
-    ensures { RepliesBy (StepSays bytes.now) result }
+    ensures { IfOk result (λ reply. IsReply Command.Step bytes.now (answer_of reply)) }
 {
     match parse(alloc, bytes) {
         Ok(file) => step_file(alloc, &file),
-        Err(TextError::Bad { line, column }) => one_line(alloc, Line::BadText { line, column }),
-        Err(TextError::TooLarge(limit)) => one_line(alloc, Line::TooLarge(limit)),
-        Err(TextError::NoMemory) => Err(AllocError),
+        Err(error) => bad_text(alloc, error),
     }
 }
 
@@ -64,15 +64,7 @@ fn step_names(alloc: Global, file: &File, scene: &SceneDecl) -> Result<Reply, Al
 {
     match resolve(alloc, file) {
         Ok(program) => step_scene(alloc, file, scene, &program),
-        Err(NameError::Wrong { kind, span, .. }) => one_line(
-            alloc,
-            Line::BadName {
-                line: span.line,
-                column: span.column,
-                kind,
-            },
-        ),
-        Err(NameError::NoMemory) => Err(AllocError),
+        Err(error) => bad_name(alloc, error),
     }
 }
 

@@ -117,15 +117,15 @@ global 1 5
 end 2
 ";
 
-// What `carol` answered, and what its sink took.
+/// What `carol` answered, and what its sink took.
 #[derive(Drop)]
-struct Answer {
-    status: Status,
-    sink: MemorySink,
+pub(crate) struct Answer {
+    pub status: Status,
+    pub sink: MemorySink,
 }
 
-// Calls `carol` with one word, on these parts of an input. The source gives 100 bytes a call.
-fn call<R: Threads + Wait + Sync + AllocGlobal>(
+/// Calls `carol` with one word, on these parts of an input. The source gives 100 bytes a call.
+pub(crate) fn call<R: Threads + Wait + Sync + AllocGlobal>(
     rt: &R,
     word: &[u8],
     parts: &[&[u8]],

@@ -4,7 +4,7 @@ use Rattle.carol_tool.specs.Reply.{answer_of, outcome_answer}
 use Rattle.carol_tool.specs.Words.{texts, command_of}
 use Rattle.carol_syntax.specs.Limits.{most_text_bytes}
 use Rattle.carol_tool.specs.Texts.{stop_answer, stop_of}
-use Rattle.carol_tool.proofs.Meaning.{meant_by_error, meant_by_step, within_from}
+use Rattle.carol_tool.proofs.Meaning.{meant_by_error, meant_by_reply, within_from}
 use Rattle.carol_tool.proofs.call.reply.Goals as goal
 
 pub returns : goal.returns
@@ -13,7 +13,7 @@ returns g c =
     let all = c.in_ok-bytes.ensures.given in
     let fits : most_text_bytes < length all.0 → ⊥ = λ more. (let e = all.3.1 more in cc) in
     let same : c.deref.result.now ≡ all.0 = search rules in
-    meant_by_step _ _ _ all.0 _ _ (answer_of c.in_ok-step.field-0) command all.1 (within_from _ _ fits) same c.in_ok-bytes.ensures.end c.in_ok-bytes.ensures.counted c.in_ok-step.ensures
+    meant_by_reply _ _ _ all.0 _ c.in_ok-command.command (answer_of c.in_ok-command_reply.field-0) command all.1 (within_from _ _ fits) same c.in_ok-bytes.ensures.end c.in_ok-bytes.ensures.counted c.in_ok-command_reply.ensures
 
 pub returns-in_err-bytes : goal.returns-in_err-bytes
 returns-in_err-bytes g c =

@@ -1,0 +1,94 @@
+-- Which ways there are.
+use Rattle.std.proofs.Common.{◌≡◌, ℕ, ◌<◌, ◌≤◌, zero, suc, Bool, true, false, ◌&&◌, List, [], ◌∷◌, length, ℤ, Option, Some, None, refl, arith}
+use Rattle.std.specs.Prelude.{slice_get}
+use Rattle.std.specs.List.{cons_option}
+use Rattle.std.specs.Option.{option_map, option_and_then}
+use Rattle.std.proofs.lemmas.Bool.{false≢true}
+use Rattle.std.proofs.lemmas.Option.{slice_get_past}
+use Rattle.carol_store.specs.declared.shape.CellKind.{CellKind}
+use Rattle.carol_store.specs.declared.shape.CellKind.TheVariants.{Counter, Peak, Flag}
+use Rattle.carol_store.specs.declared.short_list.TheConstants.{MOST_CELLS}
+use Rattle.carol_store.specs.declared.direction.Direction.{Direction}
+use Rattle.carol_store.specs.declared.effect.Atom.{Atom}
+use Rattle.carol_store.specs.Directions.{directions}
+use Rattle.carol_store.specs.Kinds.{way}
+use Rattle.carol_program.specs.Accords.{Accords, GoesWay, HasWay}
+use Rattle.carol_grant.specs.Bars.{AreWays}
+use Rattle.carol_grant.specs.Counts.{count_rows}
+use Rattle.carol_grant.specs.Grants.{lacks}
+use Rattle.carol_grant.specs.Kept.{can_go, lacks_way}
+use Rattle.carol_grant.specs.Tallies.{AreCells}
+
+-- the shape has a way that its cell can go
+pub can_go-way : (kinds : List CellKind) (cell : ℕ) (up : Bool) → can_go (slice_get kinds cell) up ≡ true → HasWay kinds cell up
+can_go-way [] cell up h = absurd (false≢true h)
+can_go-way (Counter ∷ kinds) zero up h = tt
+can_go-way (Peak ∷ kinds) zero true h = tt
+can_go-way (Peak ∷ kinds) zero false h = absurd (false≢true h)
+can_go-way (Flag ∷ kinds) zero true h = tt
+can_go-way (Flag ∷ kinds) zero false h = absurd (false≢true h)
+can_go-way (kind ∷ kinds) (suc cell) up h = can_go-way kinds cell up h
+
+-- a cell can go the ways that the shape has
+pub HasWay-goes : (kinds : List CellKind) (cell : ℕ) (up : Bool) → HasWay kinds cell up → can_go (slice_get kinds cell) up ≡ true
+HasWay-goes [] cell up h = absurd h
+HasWay-goes (Counter ∷ kinds) zero up h = refl
+HasWay-goes (Peak ∷ kinds) zero true h = refl
+HasWay-goes (Peak ∷ kinds) zero false h = absurd h
+HasWay-goes (Flag ∷ kinds) zero true h = refl
+HasWay-goes (Flag ∷ kinds) zero false h = absurd h
+HasWay-goes (kind ∷ kinds) (suc cell) up h = HasWay-goes kinds cell up h
+
+-- its cell is there
+pub HasWay-inside : (kinds : List CellKind) (cell : ℕ) (up : Bool) → HasWay kinds cell up → cell < length kinds
+HasWay-inside [] cell up h = absurd h
+HasWay-inside (kind ∷ kinds) zero up h = omega arith
+HasWay-inside (kind ∷ kinds) (suc cell) up h = omega (arith, HasWay-inside kinds cell up h)
+
+-- past the shape's cells there is no way that could be lacking
+pub lacks_way-past : (accords : Accords) (cell : ℕ) (up : Bool) (guard : ℕ) → length accords.kinds ≤ cell → lacks_way accords cell up guard ≡ false
+lacks_way-past accords cell up guard h = rw (slice_get_past accords.kinds cell h) refl
+
+-- where the way is there, it is lacking as the accord says
+way_there : (b : Bool) (passes : ℕ → Bool) (rows : List (List Bool)) → b ≡ true → count_rows (λ guard. b && passes guard) rows ≡ count_rows passes rows
+way_there true passes rows h = refl
+way_there false passes rows h = absurd (false≢true h)
+
+pub count_lacks : (accords : Accords) (cell : ℕ) (up : Bool) (rows : List (List Bool)) → HasWay accords.kinds cell up → count_rows (lacks_way accords cell up) rows ≡ count_rows (lacks accords cell up) rows
+count_lacks accords cell up rows h =
+    way_there (can_go (slice_get accords.kinds cell) up) (lacks accords cell up) rows (HasWay-goes accords.kinds cell up h)
+
+pub lacks_way-is : (accords : Accords) (cell : ℕ) (up : Bool) (guard : ℕ) → HasWay accords.kinds cell up → lacks_way accords cell up guard ≡ lacks accords cell up guard
+lacks_way-is accords cell up guard h = rw (HasWay-goes accords.kinds cell up h) refl
+
+-- a direction of an effect is a way of the shape
+way_of-kind : (kind : CellKind) (value : ℤ) (up : Bool) → way kind value ≡ Some up → GoesWay kind up
+way_of-kind Counter value up h = tt
+way_of-kind Peak value true h = tt
+way_of-kind Peak value false h = absurd (cc)
+way_of-kind Flag value true h = tt
+way_of-kind Flag value false h = absurd (cc)
+
+way_of-cell : (kinds : List CellKind) (cell : ℕ) (value : ℤ) (up : Bool) → option_and_then (λ kind. way kind value) (slice_get kinds cell) ≡ Some up → HasWay kinds cell up
+way_of-cell [] cell value up h = absurd (cc)
+way_of-cell (kind ∷ kinds) zero value up h = way_of-kind kind value up h
+way_of-cell (kind ∷ kinds) (suc cell) value up h = way_of-cell kinds cell value up h
+
+with_way : (kinds : List CellKind) (cell : ℕ) (up : Option Bool) (ways : List Direction) → ((u : Bool) → up ≡ Some u → HasWay kinds cell u) → AreWays kinds ways → AreWays kinds (cons_option (option_map (λ u. record { cell = cell; up = u }) up) ways)
+with_way kinds cell None ways here are = are
+with_way kinds cell (Some u) ways here are = (here u refl, are)
+
+pub AreWays-directions : (kinds : List CellKind) (effect : List Atom) → AreWays kinds (directions kinds effect)
+AreWays-directions kinds [] = tt
+AreWays-directions kinds (atom ∷ atoms) =
+    with_way kinds atom.cell (option_and_then (λ kind. way kind atom.value) (slice_get kinds atom.cell)) (directions kinds atoms)
+    (λ up h. way_of-cell kinds atom.cell atom.value up h) (AreWays-directions kinds atoms)
+
+-- so a tally has a number for it
+AreWays-cells : (kinds : List CellKind) (ways : List Direction) → length kinds ≤ MOST_CELLS → AreWays kinds ways → AreCells ways
+AreWays-cells kinds [] few are = tt
+AreWays-cells kinds (d ∷ ways) few are =
+    (omega (arith, HasWay-inside kinds d.cell d.up are.0), AreWays-cells kinds ways few are.1)
+
+pub AreCells-directions : (kinds : List CellKind) (effect : List Atom) → length kinds ≤ MOST_CELLS → AreCells (directions kinds effect)
+AreCells-directions kinds effect few = AreWays-cells kinds (directions kinds effect) few (AreWays-directions kinds effect)

@@ -1,0 +1,5 @@
+pub mod Bars
+pub mod Counts
+pub mod Grants
+pub mod Kept
+pub mod Tallies
