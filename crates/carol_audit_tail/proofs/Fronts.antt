@@ -1,5 +1,5 @@
 -- The lines of events in front of a tail: there is one way to read them.
-use Rattle.std.proofs.Common.{◌≡◌, ℕ, ◌+◌, ◌<◌, ◌≤◌, ◌⊎◌, List, [], ◌∷◌, ◌++◌, length, inl, inr, Err, refl, sym, ◌∙◌, ap, append_assoc, length-append, arith}
+use Rattle.std.proofs.Common.{◌≡◌, ◌≢◌, ℕ, ◌+◌, ◌<◌, ◌≤◌, ◌⊎◌, List, [], ◌∷◌, ◌++◌, length, inl, inr, Err, refl, sym, ◌∙◌, ap, append_assoc, length-append, arith}
 use Rattle.std.specs.Prelude.{codes, flat_map}
 use Rattle.carol_event.specs.declared.event.Event.{Event}
 use Rattle.carol_text.specs.Reading.{word_at}
@@ -138,11 +138,6 @@ read_not_many tail events read many = at (fronts_compared tail events read.rest 
     at (inr (inr (a, b))) = event_not_results read.rest b.0 b.1 b.2 read.results
 
 -- what is wrong with a tail is one thing, but for want of memory
-abbrev pub IsTold : TailError → Type 0
-IsTold (Bad line column) = Unit {0}
-IsTold TooLarge = Unit {0}
-IsTold NoMemory = ⊥
-
 pub not_both : (tail : List ℕ) (first : ℕ) (events : List Event) (error : TailError) → HasEvents tail events → IsFault tail first error → error ≡ NoMemory
 not_both tail first events (Bad line column) read bad = absurd (read_not_bad tail events first line column read bad)
 not_both tail first events TooLarge read many = absurd (read_not_many tail events read many)
@@ -168,13 +163,13 @@ bad_not_many tail first line column bad many = at (fronts_compared tail bad.even
     at (inr (inl (a, b))) = omega (arith, a, many.full, bad.front.few)
     at (inr (inr (a, b))) = event_not_bad bad.rest b.0 b.1 column b.2 bad.bad
 
-pub one_fault : (tail : List ℕ) (first : ℕ) (error other : TailError) → IsFault tail first error → IsFault tail first other → IsTold error → IsTold other → error ≡ other
+pub one_fault : (tail : List ℕ) (first : ℕ) (error other : TailError) → IsFault tail first error → IsFault tail first other → error ≢ NoMemory → other ≢ NoMemory → error ≡ other
 one_fault tail first (Bad line column) (Bad line' column') one other told also = one_bad_place tail first line column line' column' one other
 one_fault tail first (Bad line column) TooLarge one other told also = absurd (bad_not_many tail first line column one other)
 one_fault tail first TooLarge (Bad line column) one other told also = absurd (bad_not_many tail first line column other one)
 one_fault tail first TooLarge TooLarge one other told also = refl
-one_fault tail first NoMemory other one free told also = absurd told
-one_fault tail first error NoMemory one other told also = absurd also
+one_fault tail first NoMemory other one free told also = absurd (told refl)
+one_fault tail first error NoMemory one other told also = absurd (also refl)
 
 -- there are no more events than bytes
 lines_long : (events : List Event) → length events ≤ length (flat_map event_line events)

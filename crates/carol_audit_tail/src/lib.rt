@@ -4,8 +4,10 @@
 mod compare;
 mod error;
 mod first;
+mod laws;
 mod tail;
 
 pub use compare::first_false_line;
 pub use error::TailError;
+pub use laws::tail_laws;
 pub use tail::read_events;
