@@ -12,7 +12,7 @@ mod print;
 pub use error::LineError;
 pub use event::{Cause, Event};
 pub use parse::parse_event;
-pub use print::print_event;
+pub use print::{print_event, push_cause, push_values};
 
 #[cfg(test)]
 mod tests;

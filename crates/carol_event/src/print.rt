@@ -57,9 +57,9 @@ fn push_text(out: &mut String, event: &Event) -> Result<(), AllocError>
     }
 }
 
-// Appends the text of a cause.
+/// Appends the text of a cause.
 #[tactic(auto, unfolding(crate::specs::Texts::cause_text))]
-fn push_cause(out: &mut String, cause: Cause) -> Result<(), AllocError>
+pub fn push_cause(out: &mut String, cause: Cause) -> Result<(), AllocError>
     ensures { OnOk result (string_bytes out.new ≡ string_bytes out.old ++ cause_text cause) }
 {
     match cause {
@@ -68,8 +68,8 @@ fn push_cause(out: &mut String, cause: Cause) -> Result<(), AllocError>
     }
 }
 
-// Appends the values of a store, each behind a space.
-fn push_values(out: &mut String, store: &Store) -> Result<(), AllocError>
+/// Appends the values of a store, each behind a space.
+pub fn push_values(out: &mut String, store: &Store) -> Result<(), AllocError>
     ensures { OnOk result (string_bytes out.new ≡ string_bytes out.old ++ values_text store.now) }
 {
     for cell in 0..store.len() {

@@ -1,0 +1,12 @@
+//! The value that keeps a history of an accepted program, with what the next step needs of it at
+//! hand. Its type keeps that the history is one that the program can make in the scene.
+#![tactic(auto)]
+
+mod error;
+mod house;
+mod moved;
+
+pub use carol_history::MOST_EVENTS;
+pub use error::HouseError;
+pub use house::House;
+pub use moved::{Admitted, Gossip, Moved};
