@@ -1,5 +1,5 @@
 -- That a reply of `check` is an answer to the bytes, and all their answers agree.
-use Rattle.std.proofs.Common.{◌≡◌, List, ℕ, [], refl, sym, ◌∙◌, ap, subst, inl, inr}
+use Rattle.std.proofs.Common.{◌≡◌, List, ℕ, [], sym, ◌∙◌, ap, subst, inl, inr}
 use Rattle.std.specs.Prelude.{◌⊎◌, Some, None, IsSome, Result, Ok, Err, IfOk}
 use Rattle.std.specs.declared.alloc.AllocError.{AllocError}
 use Rattle.carol_accept.specs.Refusals.{HandsBack, IsFault, IsKeptAs, IsRefusedFor}
@@ -27,10 +27,9 @@ use Rattle.carol_tool.specs.Check.{CheckSays, IsToldAccepted, IsToldRefused, Pro
 use Rattle.carol_tool.specs.Reply.{answer_of}
 use Rattle.carol_tool.specs.Says.{Agree, FixesStatus, FixesText}
 use Rattle.carol_tool.specs.Texts.{Answer, line_answer}
-use Rattle.carol_tool.specs.Told.{NamesSay, name_answer, text_answer}
+use Rattle.carol_tool.specs.Told.{name_answer, text_answer}
 use Rattle.carol_tool.specs.declared.command.Command.TheVariants as command
 use Rattle.carol_tool.specs.declared.reply.Reply.{Reply}
-use Rattle.carol_tool.specs.declared.status.Status.{Status}
 use Rattle.carol_tool.specs.declared.status.Status.TheVariants as status
 use Rattle.carol_tool.proofs.Accorded.{IsWhole, accord_text-same}
 use Rattle.carol_tool.proofs.Firsts.{first_line, first_none}

@@ -1,7 +1,6 @@
 -- What is told of the bytes, by what is told of the file that they are.
-use Rattle.std.proofs.Common.{◌≡◌, List, ℕ, [], refl, sym, ◌∙◌, ap, subst, inl, inr}
-use Rattle.std.specs.Prelude.{Option, Some, None, Result, Err, IfOk, Ok}
-use Rattle.std.specs.declared.alloc.AllocError.{AllocError}
+use Rattle.std.proofs.Common.{◌≡◌, List, ℕ, refl, sym, ◌∙◌, ap, subst, inl, inr}
+use Rattle.std.specs.Prelude.{Some, None, Err}
 use Rattle.carol_parse.specs.Answer.{IsMeant, IsOnlyMeant}
 use Rattle.carol_parse.specs.declared.error.TextError.{TextError}
 use Rattle.carol_parse.specs.declared.error.TextError.TheVariants as text

@@ -1,6 +1,5 @@
 -- That what is told is the reply of a command, with a status of its own.
 use Rattle.std.proofs.Common.{◌≡◌, List, ℕ, sym, ap, subst, inl, inr}
-use Rattle.carol_resolve_meaning.specs.Programs.{program_faults}
 use Rattle.carol_syntax.specs.Files.{FileTree, ProgramTree}
 use Rattle.carol_syntax_meaning.specs.Outcome.{Read, Bad, Large}
 use Rattle.carol_tool.specs.Answer.{IsOwn}
