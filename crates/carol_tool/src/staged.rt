@@ -1,0 +1,80 @@
+ghost use Rattle.std.specs.Prelude.{IfOk};
+ghost use Rattle.carol_program.specs.Rules.{rules_in};
+ghost use Rattle.carol_program.specs.WellFormed.{IsWellFormed};
+ghost use Rattle.carol_resolve_meaning.specs.Programs.{names_of, program_faults, rules_of};
+ghost use Rattle.carol_syntax.specs.Files.{program_tree};
+ghost use Rattle.carol_syntax.specs.Shape.{IsProgram};
+ghost use Rattle.carol_syntax.specs.Size.{IsSizedProgram};
+ghost use Rattle.carol_tool.specs.Stages.{IsStage, IsStageOf};
+
+use super::check::refusal;
+use super::reply::{Line, Reply, one_line};
+use super::told::bad_name;
+use carol_accept::accept;
+use carol_program::{Program, Scene};
+use carol_reading::Accepted;
+use carol_resolve::resolve;
+use carol_scenario::{SceneError, scene};
+use carol_syntax::{File, SceneDecl};
+use std::alloc::{AllocError, Global};
+use std::thread::Threads;
+
+/// What comes of a program in a scene before it is carried out there.
+#[derive(Drop)]
+pub(crate) enum Stage {
+    /// Something is told of it.
+    Told(Reply),
+    /// The program is accepted, and the scene is valid for it.
+    Ready(Accepted, Scene),
+}
+
+/// What comes of the file's program in the scene: the first fault of its names, then of the scene, then
+/// the verdict where it isn't accepted; or the accepted program and the scene.
+pub(crate) fn staged<R: Threads + Sync>(
+    rt: &R,
+    alloc: Global,
+    file: &File,
+    declaration: &SceneDecl,
+) -> Result<Stage, AllocError>
+    requires shape { IsProgram (program_tree file.now.program) }
+    requires size { IsSizedProgram (program_tree file.now.program) }
+    ensures { IfOk result (IsStage (program_tree file.now.program) declaration.now) }
+{
+    match resolve(alloc, file) {
+        Ok(program) => placed(rt, alloc, declaration, program),
+        Err(error) => Ok(Stage::Told(bad_name(alloc, error)?)),
+    }
+}
+
+// What comes of a program whose names are right.
+fn placed<R: Threads + Sync>(
+    rt: &R,
+    alloc: Global,
+    declaration: &SceneDecl,
+    program: Program,
+) -> Result<Stage, AllocError>
+    requires { IsWellFormed (rules_in program) program.names }
+    ensures { IfOk result (IsStageOf program declaration.now) }
+{
+    match scene(alloc, declaration, &program) {
+        Ok(scene) => judged(rt, alloc, scene, program),
+        Err(SceneError::NoMemory) => Err(AllocError),
+        Err(bad) => Ok(Stage::Told(one_line(alloc, Line::BadScene(bad))?)),
+    }
+}
+
+// What comes of a program whose scene is right too.
+fn judged<R: Threads + Sync>(
+    rt: &R,
+    alloc: Global,
+    scene: Scene,
+    program: Program,
+) -> Result<Stage, AllocError>
+    requires { IsWellFormed (rules_in program) program.names }
+    ensures { IfOk result (IsJudged program scene) }
+{
+    match accept(rt, alloc, program) {
+        Ok(accepted) => Ok(Stage::Ready(accepted, scene)),
+        Err(refused) => Ok(Stage::Told(refusal(alloc, &refused)?)),
+    }
+}
