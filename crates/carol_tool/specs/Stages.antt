@@ -18,15 +18,35 @@ use Rattle.carol_tool.specs.declared.reply.Line.TheVariants as line
 use Rattle.carol_tool.specs.declared.staged.Stage.{Stage}
 use Rattle.carol_tool.specs.declared.staged.Stage.TheVariants.{Told, Ready}
 
--- the program isn't accepted, and its verdict is told; or it is kept, and the scene is valid for it
+-- the program isn't accepted, and its verdict is told; or it is kept
 abbrev pub IsJudged : Program → Scene → Stage → Type 0
 IsJudged program scene (Told reply) = IsToldRefused program (answer_of reply)
-IsJudged program scene (Ready kept given) =
-    IsKeptAs program kept × (given ≡ scene)
+IsJudged program scene (Ready kept given) = IsKeptAs program kept × (given ≡ scene)
 
--- the first fault of the scene is told; or there is none, and the program is judged
+-- the first fault of the scene
+pub record IsFaultOf (program : Program) (scene : SceneDecl) (answer : Answer) : Type 0 where
+  pub bad : SceneError
+  pub first : first_of (scene_faults (rules_in program) program.names scene) ≡ Some bad
+  pub told : answer ≡ line_answer (line.BadScene bad)
+
+-- there is none, and the program is judged in it
+pub record IsPlaced (program : Program) (scene : SceneDecl) (stage : Stage) : Type 0 where
+  pub none : scene_faults (rules_in program) program.names scene ≡ []
+  pub judged : IsJudged program (scene_meaning program.names scene) stage
+
+-- the first fault of the scene is told, or what comes of the program in it
 abbrev pub IsStageOf : Program → SceneDecl → Stage → Type 0
-IsStageOf program scene stage =
-    IsToldFault program scene stage
-    ⊎ ((scene_faults (rules_in program) program.names scene ≡ [])
-    × IsJudged program (scene_meaning program.names scene) stage)
+IsStageOf program scene (Told reply) =
+    IsFaultOf program scene (answer_of reply) ⊎ IsPlaced program scene (Told reply)
+IsStageOf program scene (Ready kept given) = IsPlaced program scene (Ready kept given)
+
+-- something is told of the tree's program in the scene; or it is ready, and the scene valid for it
+abbrev pub IsStage : ProgramTree → SceneDecl → Stage → Type 0
+IsStage tree scene (Told reply) = IsToldBefore tree scene (answer_of reply)
+IsStage tree scene (Ready kept given) =
+    IsReady tree scene kept × (given ≡ scene_of kept scene)
+
+-- a scene that is handed on is valid for the program
+abbrev pub IsValidIn : Stage → Type 0
+IsValidIn (Told reply) = Unit {0}
+IsValidIn (Ready kept scene) = IsValidScene (rules_in kept.program) scene

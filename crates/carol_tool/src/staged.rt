@@ -1,11 +1,11 @@
 ghost use Rattle.std.specs.Prelude.{IfOk};
 ghost use Rattle.carol_program.specs.Rules.{rules_in};
+ghost use Rattle.carol_program.specs.Scenes.{IsValidScene};
 ghost use Rattle.carol_program.specs.WellFormed.{IsWellFormed};
-ghost use Rattle.carol_resolve_meaning.specs.Programs.{names_of, program_faults, rules_of};
 ghost use Rattle.carol_syntax.specs.Files.{program_tree};
 ghost use Rattle.carol_syntax.specs.Shape.{IsProgram};
 ghost use Rattle.carol_syntax.specs.Size.{IsSizedProgram};
-ghost use Rattle.carol_tool.specs.Stages.{IsStage, IsStageOf};
+ghost use Rattle.carol_tool.specs.Stages.{IsJudged, IsStage, IsStageOf, IsValidIn};
 
 use super::check::refusal;
 use super::reply::{Line, Reply, one_line};
@@ -38,7 +38,8 @@ pub(crate) fn staged<R: Threads + Sync>(
 ) -> Result<Stage, AllocError>
     requires shape { IsProgram (program_tree file.now.program) }
     requires size { IsSizedProgram (program_tree file.now.program) }
-    ensures { IfOk result (IsStage (program_tree file.now.program) declaration.now) }
+    ensures stage { IfOk result (IsStage (program_tree file.now.program) declaration.now) }
+    ensures valid { IfOk result IsValidIn }
 {
     match resolve(alloc, file) {
         Ok(program) => placed(rt, alloc, declaration, program),
@@ -54,7 +55,8 @@ fn placed<R: Threads + Sync>(
     program: Program,
 ) -> Result<Stage, AllocError>
     requires { IsWellFormed (rules_in program) program.names }
-    ensures { IfOk result (IsStageOf program declaration.now) }
+    ensures stage { IfOk result (IsStageOf program declaration.now) }
+    ensures valid { IfOk result IsValidIn }
 {
     match scene(alloc, declaration, &program) {
         Ok(scene) => judged(rt, alloc, scene, program),
@@ -70,8 +72,10 @@ fn judged<R: Threads + Sync>(
     scene: Scene,
     program: Program,
 ) -> Result<Stage, AllocError>
-    requires { IsWellFormed (rules_in program) program.names }
-    ensures { IfOk result (IsJudged program scene) }
+    requires well_formed { IsWellFormed (rules_in program) program.names }
+    requires valid { IsValidScene (rules_in program) scene }
+    ensures stage { IfOk result (IsJudged program scene) }
+    ensures valid { IfOk result IsValidIn }
 {
     match accept(rt, alloc, program) {
         Ok(accepted) => Ok(Stage::Ready(accepted, scene)),
