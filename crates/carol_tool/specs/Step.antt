@@ -1,5 +1,5 @@
 -- What `step` answers.
-use Rattle.std.specs.Prelude.{◌≡◌, ◌⊎◌, List, ℕ, [], map, Some, None, IsSome}
+use Rattle.std.specs.Prelude.{◌≡◌, List, ℕ, [], map, Some, None}
 use Rattle.carol_history.specs.declared.script.Statement.{Statement}
 use Rattle.carol_history.specs.declared.script.Statement.TheVariants as statement
 use Rattle.carol_history.specs.Scripts.{ComesTo, Scripted}
@@ -10,8 +10,8 @@ use Rattle.carol_report.specs.Report.{report_text}
 use Rattle.carol_syntax.specs.declared.scenes.SceneDecl.{SceneDecl}
 use Rattle.carol_syntax.specs.declared.scenes.ScriptLine.{ScriptLine}
 use Rattle.carol_syntax.specs.declared.scenes.ScriptLine.TheVariants.{Go, Gossip, Cut, Join}
-use Rattle.carol_syntax.specs.Files.{FileTree}
-use Rattle.carol_tool.specs.Staged.{StagedSays}
+use Rattle.carol_syntax.specs.Files.{FileTree, ProgramTree}
+use Rattle.carol_tool.specs.Staged.{StagedSays, TakesSay, both}
 use Rattle.carol_tool.specs.Texts.{Answer, line_answer}
 use Rattle.carol_tool.specs.Told.{BytesSay}
 use Rattle.carol_tool.specs.declared.command.Command.TheVariants as command
@@ -39,23 +39,14 @@ pub record IsPlayed
   pub comes : ComesTo (rules_in kept.program) scene 1 (map statement_of lines) [] script
   pub told : answer ≡ script_answer (rules_in kept.program) scene script
 
--- a scene and a script stand behind the program
-abbrev pub HasParts : FileTree → Type 0
-HasParts file = IsSome file.scene × IsSome file.script
+-- what comes of a program with a scene and a script
+abbrev pub PartsSay : ProgramTree → SceneDecl × List ScriptLine → Answer → Type 0
+PartsSay program (scene, script) answer = StagedSays (IsPlayed script) program scene None answer
 
--- these are they, and this is said of them
-pub record IsWhole (file : FileTree) (answer : Answer) : Type 0 where
-  pub scene : SceneDecl
-  pub script : List ScriptLine
-  pub is_scene : file.scene ≡ Some scene
-  pub is_script : file.script ≡ Some script
-  pub says : StagedSays (IsPlayed script) file.program scene answer
-
--- the answer to a file: a part is missing, or what is said of its parts
+-- the answer to a file: a scene or a script is missing, or what comes of them
 abbrev pub FileSays : FileTree → Answer → Type 0
 FileSays file answer =
-    ((HasParts file → ⊥) × (answer ≡ line_answer (line.PartMissing command.Step)))
-    ⊎ IsWhole file answer
+    TakesSay command.Step (PartsSay file.program) (both file.scene file.script) answer
 
 -- the answer to the bytes
 abbrev pub StepSays : List ℕ → Answer → Type 0

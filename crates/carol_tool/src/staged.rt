@@ -5,7 +5,7 @@ ghost use Rattle.carol_program.specs.WellFormed.{IsWellFormed};
 ghost use Rattle.carol_syntax.specs.Files.{program_tree};
 ghost use Rattle.carol_syntax.specs.Shape.{IsProgram};
 ghost use Rattle.carol_syntax.specs.Size.{IsSizedProgram};
-ghost use Rattle.carol_tool.specs.Stages.{IsJudged, IsStage, IsStageOf, IsValidIn};
+ghost use Rattle.carol_tool.specs.Stages.{IsJudged, IsRested, IsStage, IsStageOf, IsValidIn};
 
 use super::check::refusal;
 use super::reply::{Line, Reply, one_line};
@@ -29,20 +29,22 @@ pub(crate) enum Stage {
 }
 
 /// What comes of the file's program in the scene: the first fault of its names, then of the scene, then
-/// the verdict where it isn't accepted; or the accepted program and the scene.
+/// what is wrong with the part that was read last, then the verdict where the program isn't accepted;
+/// or the accepted program and the scene.
 pub(crate) fn staged<R: Threads + Sync>(
     rt: &R,
     alloc: Global,
     file: &File,
     declaration: &SceneDecl,
+    rest: Option<Line>,
 ) -> Result<Stage, AllocError>
     requires shape { IsProgram (program_tree file.now.program) }
     requires size { IsSizedProgram (program_tree file.now.program) }
-    ensures stage { IfOk result (IsStage (program_tree file.now.program) declaration.now) }
+    ensures stage { IfOk result (IsStage (program_tree file.now.program) declaration.now rest) }
     ensures valid { IfOk result IsValidIn }
 {
     match resolve(alloc, file) {
-        Ok(program) => placed(rt, alloc, declaration, program),
+        Ok(program) => placed(rt, alloc, declaration, rest, program),
         Err(error) => Ok(Stage::Told(bad_name(alloc, error)?)),
     }
 }
@@ -52,20 +54,40 @@ fn placed<R: Threads + Sync>(
     rt: &R,
     alloc: Global,
     declaration: &SceneDecl,
+    rest: Option<Line>,
     program: Program,
 ) -> Result<Stage, AllocError>
     requires { IsWellFormed (rules_in program) program.names }
-    ensures stage { IfOk result (IsStageOf program declaration.now) }
+    ensures stage { IfOk result (IsStageOf program declaration.now rest) }
     ensures valid { IfOk result IsValidIn }
 {
     match scene(alloc, declaration, &program) {
-        Ok(scene) => judged(rt, alloc, scene, program),
+        Ok(scene) => rested(rt, alloc, scene, rest, program),
         Err(SceneError::NoMemory) => Err(AllocError),
         Err(bad) => Ok(Stage::Told(one_line(alloc, Line::BadScene(bad))?)),
     }
 }
 
 // What comes of a program whose scene is right too.
+fn rested<R: Threads + Sync>(
+    rt: &R,
+    alloc: Global,
+    scene: Scene,
+    rest: Option<Line>,
+    program: Program,
+) -> Result<Stage, AllocError>
+    requires well_formed { IsWellFormed (rules_in program) program.names }
+    requires valid { IsValidScene (rules_in program) scene }
+    ensures stage { IfOk result (IsRested program scene rest) }
+    ensures valid { IfOk result IsValidIn }
+{
+    match rest {
+        None => judged(rt, alloc, scene, program),
+        Some(bad) => Ok(Stage::Told(one_line(alloc, bad)?)),
+    }
+}
+
+// What comes of a program with which nothing is wrong.
 fn judged<R: Threads + Sync>(
     rt: &R,
     alloc: Global,

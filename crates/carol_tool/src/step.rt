@@ -1,5 +1,4 @@
-ghost use Rattle.std.specs.Prelude.{◌≡◌, ◌≤◌, [], length, map, IfOk, IfSome};
-ghost use Rattle.carol_history.specs.Scripts.{ComesTo};
+ghost use Rattle.std.specs.Prelude.{◌≡◌, ◌≤◌, None, length, map, IfOk, IfSome};
 ghost use Rattle.carol_program.specs.Rules.{rules_in};
 ghost use Rattle.carol_program.specs.Scenes.{IsValidScene};
 ghost use Rattle.carol_syntax.specs.Files.{file_tree, program_tree};
@@ -16,7 +15,7 @@ use super::reply::{Line, Reply, one_line};
 use super::staged::{Stage, staged};
 use super::status::Status;
 use super::told::bad_text;
-use carol_history::{MOST_EVENTS, Statement, StatementList};
+use carol_history::{MOST_EVENTS, Statement, StatementList, history_laws};
 use carol_house::House;
 use carol_house_script::{Played, run_script};
 use carol_parse::parse;
@@ -36,6 +35,7 @@ pub(crate) fn step<R: Threads + Sync>(
     requires { length bytes.now ≤ most_text_bytes }
     ensures { IfOk result (λ reply. IsReply Command.Step bytes.now (answer_of reply)) }
 {
+    history_laws();
     match parse(alloc, bytes) {
         Ok(file) => step_file(rt, alloc, &file),
         Err(error) => bad_text(alloc, error),
@@ -69,9 +69,9 @@ fn step_parts<R: Threads + Sync>(
     requires size { IsSizedProgram (program_tree file.now.program) }
     requires script { length script.now ≤ MOST_EVENTS }
     ensures { IfOk result (λ reply. StagedSays (IsPlayed script.now)
-        (program_tree file.now.program) scene.now (answer_of reply)) }
+        (program_tree file.now.program) scene.now None (answer_of reply)) }
 {
-    match staged(rt, alloc, file, scene)? {
+    match staged(rt, alloc, file, scene, None)? {
         Stage::Told(reply) => Ok(reply),
         Stage::Ready(accepted, scene) => play(alloc, accepted, scene, script),
     }
