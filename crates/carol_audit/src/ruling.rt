@@ -19,8 +19,8 @@ pub enum Ruling {
 }
 
 /// Audits events, at most 131,072, of the program in the scene, which is valid for it: they are
-/// genuine exactly where each may come after those before it. Memory for events is taken once, at the
-/// start.
+/// genuine exactly where each may come after those before it. Memory for events is taken once, at
+/// the start.
 pub fn audit(
     alloc: Global,
     accepted: Accepted,

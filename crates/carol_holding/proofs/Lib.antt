@@ -1,3 +1,3 @@
 pub mod Held
-pub mod Listed
+pub mod Marked
 pub mod Rows

@@ -1,5 +1,5 @@
 -- The rows of all replicas.
-use Rattle.std.proofs.Common.{◌≡◌, ◌≢◌, ℕ, ◌<◌, ◌≤◌, zero, suc, Bool, true, false, eqb, ◌||◌, ◌&&◌, List, [], ◌∷◌, ◌++◌, length, set, take, drop, get_or, append-nil, Option, Some, None, Result, Ok, Err, refl, sym, ◌∙◌, ap, subst, inl, inr, arith}
+use Rattle.std.proofs.Common.{◌≡◌, ◌≢◌, ℕ, ◌<◌, zero, suc, Bool, true, false, eqb, ◌||◌, ◌&&◌, List, [], ◌∷◌, ◌++◌, length, set, take, drop, get_or, append-nil, Option, Some, None, Result, Ok, Err, refl, sym, ◌∙◌, ap, subst, inl, inr, arith}
 use Rattle.std.specs.Prelude.{OnErr}
 use Rattle.std.proofs.Math.Seq.{take-length, drop-length, map-set_same}
 use Rattle.std.proofs.lemmas.Bool.{cases_eq, eq-eqb, le-ltb, ne_eqb}
@@ -57,43 +57,33 @@ has_at-nothing [] new h e (suc r) i = refl
 has_at-nothing (row ∷ rows) new h e zero i = h 0 i
 has_at-nothing (row ∷ rows) new h e (suc r) i = has_at-nothing rows new (λ s j. h (suc s) j) e r i
 
--- room for no entries
-pub HaveRoom-none : (rows : List HeldRow) → HaveRoom 0 rows
-HaveRoom-none [] = tt
-HaveRoom-none (row ∷ rows) = (omega arith, HaveRoom-none rows)
-
--- room for more is room for less
-pub HaveRoom-less : (n m : ℕ) (rows : List HeldRow) → n ≤ m → HaveRoom m rows → HaveRoom n rows
-HaveRoom-less n m [] le h = tt
-HaveRoom-less n m (row ∷ rows) le h = (omega (arith, h.0), HaveRoom-less n m rows le h.1)
-
 -- the room of the row that was read
-pub room_at : (n : ℕ) (rows : List HeldRow) (replica : ℕ) (row : HeldRow) → row ≡ get_or rows replica row → replica < length rows → HaveRoom n rows → n ≤ row.room
-room_at n [] replica row is h room = absurd (omega arith)
-room_at n (first ∷ rows) zero row is h room = rw is room.0
-room_at n (first ∷ rows) (suc replica) row is h room = room_at n rows replica row is (omega arith) room.1
+pub room_at : (rows : List HeldRow) (replica : ℕ) (row : HeldRow) → row ≡ get_or rows replica row → replica < length rows → HaveRoom rows → row.has_room ≡ true
+room_at [] replica row is h room = absurd (omega arith)
+room_at (first ∷ rows) zero row is h room = rw is room.0
+room_at (first ∷ rows) (suc replica) row is h room = room_at rows replica row is (omega arith) room.1
 
 -- one row was written
-pub HaveRoom-set : (n : ℕ) (rows : List HeldRow) (replica : ℕ) (new : HeldRow) → n ≤ new.room → HaveRoom n rows → HaveRoom n (set rows replica new)
-HaveRoom-set n [] replica new le h = tt
-HaveRoom-set n (row ∷ rows) zero new le h = (le, h.1)
-HaveRoom-set n (row ∷ rows) (suc replica) new le h = (h.0, HaveRoom-set n rows replica new le h.1)
-
--- one row was given more room
-pub HaveRoom-grown : (n : ℕ) (rows : List HeldRow) (replica : ℕ) (new d : HeldRow) → (get_or rows replica d).room ≤ new.room → HaveRoom n rows → HaveRoom n (set rows replica new)
-HaveRoom-grown n [] replica new d le h = tt
-HaveRoom-grown n (row ∷ rows) zero new d le h = (omega (arith, h.0, le), h.1)
-HaveRoom-grown n (row ∷ rows) (suc replica) new d le h = (h.0, HaveRoom-grown n rows replica new d le h.1)
+pub HaveRoom-set : (rows : List HeldRow) (replica : ℕ) (new : HeldRow) → new.has_room ≡ true → HaveRoom rows → HaveRoom (set rows replica new)
+HaveRoom-set [] replica new has h = tt
+HaveRoom-set (row ∷ rows) zero new has h = (has, h.1)
+HaveRoom-set (row ∷ rows) (suc replica) new has h = (h.0, HaveRoom-set rows replica new has h.1)
 
 -- what is held stays where a row's does
 pub held_by-set : (rows : List HeldRow) (replica : ℕ) (new d : HeldRow) → new.held ≡ (get_or rows replica d).held → held_by (set rows replica new) ≡ held_by rows
 held_by-set rows replica new d same = map-set_same (λ (row : HeldRow). row.held) rows replica new d same
 
--- so were all rows before it, and now it has room too
-pub HaveRoom-more : (n i : ℕ) (rows : List HeldRow) (new : HeldRow) → i < length rows → HaveRoom n (take i rows) → n ≤ new.room → HaveRoom n (take (suc i) (set rows i new))
-HaveRoom-more n i [] new h before le = absurd (omega arith)
-HaveRoom-more n zero (row ∷ rows) new h before le = (le, tt)
-HaveRoom-more n (suc i) (row ∷ rows) new h before le = (before.0, HaveRoom-more n i rows new (omega arith) before.1 le)
+-- one row was given room
+pub HaveRoom-grown : (rows : List HeldRow) (replica : ℕ) (new d : HeldRow) → ((get_or rows replica d).has_room ≡ true → new.has_room ≡ true) → HaveRoom rows → HaveRoom (set rows replica new)
+HaveRoom-grown [] replica new d keeps h = tt
+HaveRoom-grown (row ∷ rows) zero new d keeps h = (keeps h.0, h.1)
+HaveRoom-grown (row ∷ rows) (suc replica) new d keeps h = (h.0, HaveRoom-grown rows replica new d keeps h.1)
+
+-- so were all rows before it
+pub HaveRoom-more : (i : ℕ) (rows : List HeldRow) (new : HeldRow) → i < length rows → HaveRoom (take i rows) → new.has_room ≡ true → HaveRoom (take (suc i) (set rows i new))
+HaveRoom-more i [] new h before has = absurd (omega arith)
+HaveRoom-more zero (row ∷ rows) new h before has = (has, tt)
+HaveRoom-more (suc i) (row ∷ rows) new h before has = (before.0, HaveRoom-more i rows new (omega arith) before.1 has)
 
 -- rows that were written through a slice
 pub refilled : (n : ℕ) (before after : List HeldRow) → n ≡ length before → length after ≡ length before → take n (after ++ drop (length after) before) ≡ after
@@ -102,8 +92,8 @@ refilled n before after e same = rw (same, drop-length, append-nil, e, ← same,
 pub held_by-refilled : (n : ℕ) (before after : List HeldRow) → n ≡ length before → length after ≡ length before → held_by after ≡ held_by before → held_by (take n (after ++ drop (length after) before)) ≡ held_by before
 held_by-refilled n before after e same is = ap (λ (rows : List HeldRow). held_by rows) (refilled n before after e same) ∙ is
 
-pub HaveRoom-refilled : (n : ℕ) (before after : List HeldRow) → n ≡ length before → length after ≡ length before → (m : ℕ) → HaveRoom m after → HaveRoom m (take n (after ++ drop (length after) before))
-HaveRoom-refilled n before after e same m h = subst (λ (rows : List HeldRow). HaveRoom m rows) (sym (refilled n before after e same)) h
+pub HaveRoom-refilled : (n : ℕ) (before after : List HeldRow) → n ≡ length before → length after ≡ length before → HaveRoom after → HaveRoom (take n (after ++ drop (length after) before))
+HaveRoom-refilled n before after e same h = subst (λ (rows : List HeldRow). HaveRoom rows) (sym (refilled n before after e same)) h
 
 -- a fact of every error
 pub on_err : {X E P : Type 0} (r : Result X E) → P → OnErr r P

@@ -1,41 +1,34 @@
 -- What is kept of one replica.
-use Rattle.std.specs.Prelude.{◌≡◌, ℕ, ◌+◌, ◌<◌, ◌≤◌, Bool, true, false, ◌==◌, if◌then◌else◌, List, [], ◌∷◌, length, get_or, map, Option, Some, None, Result, Ok, Err}
-use Rattle.carol_holding.specs.declared.row.TheConstants.{MOST_ENTRIES}
-use Rattle.carol_holding.specs.Held.{HeldBy, has_entry, is_listed}
+use Rattle.std.specs.Prelude.{◌≡◌, ℕ, ◌+◌, ◌-◌, ◌*◌, ◌<◌, ◌≤◌, zero, suc, Bool, true, false, if◌then◌else◌, List, [], ◌∷◌, length, map, Option, Some, None}
+use Rattle.carol_holding.specs.declared.row.TheConstants.{MOST_ENTRIES, MOST_WORDS}
+use Rattle.carol_holding.specs.Held.{HeldBy, has_entry}
+use Rattle.carol_holding.specs.Marked.{is_marked}
 
--- what the replica holds, and room for so many entries more
+-- what the replica holds, and whether there is room for any entry
 pub record HeldRow : Type 0 where
   pub held : HeldBy
-  pub room : ℕ
+  pub has_room : Bool
 
--- the entries ascend strictly, the first being this one or above, and the last below the limit
-abbrev pub Rises : ℕ → List ℕ → Type 0
-Rises least [] = Unit {0}
-Rises least (e ∷ es) = (least ≤ e) × (e < MOST_ENTRIES) × Rises (e + 1) es
+-- those of so many entries, from this one on, that are marked
+unfoldable pub marked_from : List ℕ → ℕ → ℕ → List ℕ
+marked_from words least zero = []
+marked_from words least (suc count) =
+    if is_marked words least then least ∷ marked_from words (least + 1) count
+    else marked_from words (least + 1) count
 
--- the entries above the front ascend, and none of them is the front, so that this is the lowest
--- entry that isn't held
-abbrev pub IsSettled : HeldBy → Type 0
-IsSettled held = (held.front ≤ MOST_ENTRIES) × Rises (held.front + 1) held.above
+-- what a replica with this front holds, where its entries are marked in these words
+abbrev pub held_of : ℕ → List ℕ → HeldBy
+held_of front words = record {
+  front = front;
+  above = marked_from words (front + 1) (64 * length words - (front + 1));
+}
 
--- the entry is the first of the list
-abbrev pub starts_with : List ℕ → ℕ → Bool
-starts_with [] entry = false
-starts_with (e ∷ es) entry = e == entry
-
--- the front moved on over the listed entries that follow it without a gap
-abbrev pub settled : ℕ → List ℕ → HeldBy
-settled front [] = record { front = front; above = [] }
-settled front (e ∷ es) =
-    if e == front then settled (front + 1) es else record { front = front; above = e ∷ es }
-
--- the entry is listed; or it isn't, and this is its place between the lower and the higher ones
-abbrev pub IsPlace : List ℕ → ℕ → Result ℕ ℕ → Type 0
-IsPlace list entry (Ok i) = is_listed list entry ≡ true
-IsPlace list entry (Err i) =
-    (is_listed list entry ≡ false) × (i ≤ length list)
-    × ((k : ℕ) → k < i → get_or list k 0 < entry)
-    × ((k : ℕ) → i ≤ k → k < length list → entry < get_or list k 0)
+-- the front is the lowest entry that isn't marked
+pub record IsKept (front : ℕ) (words : List ℕ) : Type 0 where
+  pub below : (i : ℕ) → i < front → is_marked words i ≡ true
+  pub lacks : is_marked words front ≡ false
+  pub within : front ≤ MOST_ENTRIES
+  pub few : length words ≤ MOST_WORDS
 
 -- nothing is held
 abbrev pub nothing : HeldBy
@@ -52,7 +45,7 @@ IsFirstLacked mine theirs (Some e) =
 abbrev pub held_by : List HeldRow → List HeldBy
 held_by rows = map (λ row. row.held) rows
 
--- each row has room for so many entries
-abbrev pub HaveRoom : ℕ → List HeldRow → Type 0
-HaveRoom spare [] = Unit {0}
-HaveRoom spare (row ∷ rows) = (spare ≤ row.room) × HaveRoom spare rows
+-- each row has room for any entry
+abbrev pub HaveRoom : List HeldRow → Type 0
+HaveRoom [] = Unit {0}
+HaveRoom (row ∷ rows) = (row.has_room ≡ true) × HaveRoom rows

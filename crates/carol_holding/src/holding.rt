@@ -15,6 +15,7 @@ pub struct Holding {
 }
 
 impl Model for Holding {
+    ghost use Rattle.std.specs.Prelude.{◌≤◌};
     ghost use Rattle.carol_holding.specs.Held as held;
     ghost use Rattle.carol_holding.specs.Rows.{held_by, HaveRoom};
 
@@ -22,7 +23,7 @@ impl Model for Holding {
 
     ghost view = { λ h. record { replicas = held_by h.rows.items; spare = h.spare } };
 
-    ghost invariant = { λ h. HaveRoom h.spare h.rows.items };
+    ghost invariant = { λ h. 1 ≤ h.spare → HaveRoom h.rows.items };
 }
 
 impl Holding {
@@ -46,8 +47,8 @@ impl Holding {
         self.rows[replica as usize].has(entry)
     }
 
-    /// The lowest entry that the replica, which is in range, doesn't hold: it is the number of entries
-    /// up to which all are held.
+    /// The lowest entry that the replica, which is in range, doesn't hold: it is the number of
+    /// entries up to which all are held.
     pub fn front(&self, replica: u32) -> u32
         requires { replica < length self.now.replicas }
         ensures below { (i : ℕ) → i < result → holds self.now replica i ≡ true }
@@ -74,8 +75,10 @@ impl Holding {
         ensures grows { self.old.spare ≤ self.new.spare }
         ensures err { OnErr result ((self.old.spare < entries) × (self.new ≡ self.old)) }
     {
-        reserve_all(&mut self.rows, entries)?;
-        self.spare = self.spare.max(entries);
+        if self.spare < entries {
+            reserve_all(&mut self.rows)?;
+            self.spare = entries;
+        }
         Ok(())
     }
 
@@ -91,15 +94,14 @@ impl Holding {
     }
 }
 
-// Takes room for this many entries more in each row.
-fn reserve_all(rows: &mut Vec<Row>, entries: u32) -> Result<(), AllocError>
+// Takes room for any entry in each row.
+fn reserve_all(rows: &mut Vec<Row>) -> Result<(), AllocError>
     ensures held { held_by rows.new.items ≡ held_by rows.old.items }
-    ensures room { (n : ℕ) → HaveRoom n rows.old.items → HaveRoom n rows.new.items }
-    ensures ok { OnOk result (HaveRoom entries rows.new.items) }
-    ensures err { (n : ℕ) → HaveRoom n rows.old.items → OnErr result (n < entries) }
+    ensures room { HaveRoom rows.old.items → HaveRoom rows.new.items }
+    ensures ok { OnOk result (HaveRoom rows.new.items) }
 {
     for row in rows.iter_mut() {
-        row.reserve(entries)?;
+        row.reserve()?;
     }
     Ok(())
 }

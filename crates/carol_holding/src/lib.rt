@@ -1,8 +1,10 @@
-//! Which replica holds which entries of a journal. A replica mostly holds all entries up to one and
-//! few behind it, so that is what is kept: a front, below which all are held, and a list of the others.
+//! Which replica holds which entries of a journal. Kept are a bit for each entry, so that those that
+//! one replica holds and another lacks are found 64 at a time, and each replica's front, below which
+//! it holds all: a search begins there.
 #![tactic(auto)]
 
 mod holding;
+mod marks;
 mod row;
 
 pub use holding::Holding;

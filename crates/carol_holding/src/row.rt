@@ -1,44 +1,39 @@
-ghost use Rattle.std.specs.Prelude.{◌≡◌, ℕ, ◌+◌, ◌<◌, ◌≤◌, ◌==◌, ◌||◌, false, not, length, OnOk, OnErr};
-ghost use Rattle.std.specs.List.{find, insert};
-ghost use Rattle.std.specs.VecDeque.{deque_len, deque_capacity};
+ghost use Rattle.std.specs.Prelude.{◌≡◌, ℕ, ◌<◌, ◌==◌, ◌||◌, true, false, OnOk};
 ghost use Rattle.carol_holding.specs.Held.{has_entry};
-ghost use Rattle.carol_holding.specs.Rows.{
-  IsFirstLacked,
-  IsPlace,
-  Rises,
-  nothing,
-  settled,
-  starts_with,
-};
+ghost use Rattle.carol_holding.specs.Rows.{IsFirstLacked, nothing};
 
+use crate::marks;
 use std::alloc::{AllocError, Global};
-use std::collections::VecDeque;
 use std::marker::Model;
 
 /// How many entries there are at most.
 pub const MOST_ENTRIES: u32 = 131_072;
 
-/// The entries that one replica holds: all below the front, and these above it. Contracts see it as
-/// what is held, and for how many entries more it has room.
+/// How many words have a mark for each of them.
+pub const MOST_WORDS: usize = (MOST_ENTRIES / u64::BITS) as usize;
+
+/// The entries that one replica holds, each of them marked; all below the front are. Contracts see
+/// it as what is held, and whether there is room for any entry.
 #[derive(Drop)]
 pub struct Row {
     front: u32,
-    above: VecDeque<u32>,
+    marks: Vec<u64>,
 }
 
 impl Model for Row {
-    ghost use Rattle.std.specs.Prelude.{◌-◌};
-    ghost use Rattle.std.specs.VecDeque.{deque_len, deque_capacity};
-    ghost use Rattle.carol_holding.specs.Rows.{HeldRow, IsSettled};
+    ghost use Rattle.std.specs.Prelude.{nat_le};
+    ghost use Rattle.std.specs.Vec.{vec_capacity};
+    ghost use Rattle.carol_holding.specs.declared.row.TheConstants.{MOST_WORDS};
+    ghost use Rattle.carol_holding.specs.Rows.{HeldRow, IsKept, held_of};
 
     ghost Value = { HeldRow };
 
     ghost view = { λ r. record {
-      held = record { front = r.front; above = r.above.items };
-      room = deque_capacity r.above - deque_len r.above;
+      held = held_of r.front r.marks.items;
+      has_room = nat_le MOST_WORDS (vec_capacity r.marks);
     } };
 
-    ghost invariant = { λ r. IsSettled (record { front = r.front; above = r.above.items }) };
+    ghost invariant = { λ r. IsKept r.front r.marks.items };
 }
 
 impl Row {
@@ -48,7 +43,7 @@ impl Row {
     {
         Row {
             front: 0,
-            above: VecDeque::new(alloc),
+            marks: Vec::new(alloc),
         }
     }
 
@@ -56,7 +51,7 @@ impl Row {
     pub fn has(&self, entry: u32) -> bool
         ensures { result ≡ has_entry self.now.held entry }
     {
-        entry < self.front || place_in(&self.above, entry).is_ok()
+        marks::is_marked(&self.marks, entry)
     }
 
     /// The lowest entry that isn't held.
@@ -67,97 +62,36 @@ impl Row {
         self.front
     }
 
-    /// The lowest entry that is held here and that the other row lacks.
+    /// The lowest entry that is held here and that the other row lacks. It is looked for 64 at a
+    /// time, and not below the other's front.
     pub fn first_beyond(&self, other: &Row) -> Option<u32>
         ensures { IsFirstLacked self.now.held other.now.held result }
     {
-        if other.front < self.front {
-            return Some(other.front);
-        }
-        first_lacked(&self.above, other)
+        marks::first_beyond(
+            &self.marks,
+            &other.marks,
+            (other.front / u64::BITS) as usize,
+        )
     }
 
-    /// Takes room for this many entries more. What is held stays, whatever is answered.
-    pub fn reserve(&mut self, entries: u32) -> Result<(), AllocError>
+    /// Takes room for any entry. What is held stays, whatever is answered.
+    pub fn reserve(&mut self) -> Result<(), AllocError>
         ensures held { self.new.held ≡ self.old.held }
-        ensures room { self.old.room ≤ self.new.room }
-        ensures ok { OnOk result (entries ≤ self.new.room) }
-        ensures err { OnErr result (self.old.room < entries) }
+        ensures room { self.old.has_room ≡ true → self.new.has_room ≡ true }
+        ensures ok { OnOk result (self.new.has_room ≡ true) }
     {
-        self.above.reserve(entries as usize)
+        self.marks.reserve(MOST_WORDS - self.marks.len())
     }
 
-    /// Adds the entry. There is room for one.
+    /// Adds the entry. There is room for any.
     pub fn add(&mut self, entry: u32)
         requires entry { entry < MOST_ENTRIES }
-        requires room { 1 ≤ self.old.room }
+        requires room { self.old.has_room ≡ true }
         ensures each { (i : ℕ) → has_entry self.new.held i
             ≡ ((entry == i) || has_entry self.old.held i) }
-        ensures room { self.old.room ≤ self.new.room + 1 }
+        ensures room { self.new.has_room ≡ true }
     {
-        if entry < self.front {
-            return;
-        }
-        if entry == self.front {
-            self.front = settle(entry + 1, &mut self.above);
-            return;
-        }
-        match place_in(&self.above, entry) {
-            Ok(_) => {}
-            Err(at) => insert_at(&mut self.above, at, entry),
-        }
-    }
-}
-
-// Where the entry stands in the list, or where it belongs.
-fn place_in(list: &VecDeque<u32>, entry: u32) -> Result<usize, usize>
-    requires { Rises 0 list.now.items }
-    ensures { IsPlace list.now.items entry result }
-{
-    list.binary_search(&entry)
-}
-
-// The first of the entries that the row lacks.
-fn first_lacked(list: &VecDeque<u32>, row: &Row) -> Option<u32>
-    ensures { result ≡ find (λ entry. not (has_entry row.now.held entry)) list.now.items }
-{
-    list.iter().copied().find(|entry| !row.has(*entry))
-}
-
-// Inserts the entry. There is room for one.
-fn insert_at(list: &mut VecDeque<u32>, at: usize, entry: u32)
-    requires at { at ≤ length list.old.items }
-    requires room { deque_len list.old < deque_capacity list.old }
-    ensures items { list.new.items ≡ insert list.old.items at entry }
-    ensures len { deque_len list.new ≡ deque_len list.old + 1 }
-    ensures capacity { deque_capacity list.old ≤ deque_capacity list.new }
-{
-    list.insert(at, entry).unwrap();
-}
-
-// Moves the front on over the listed entries that follow it without a gap, which leave the list.
-fn settle(front: u32, list: &mut VecDeque<u32>) -> u32
-    requires front { front ≤ MOST_ENTRIES }
-    requires rises { Rises front list.old.items }
-    ensures settled { record { front = result; above = list.new.items }
-        ≡ settled front list.old.items }
-    ensures len { deque_len list.new ≤ deque_len list.old }
-    ensures capacity { deque_capacity list.new ≡ deque_capacity list.old }
-{
-    let mut at = front;
-    while starts_with(list, at) {
-        list.pop_front();
-        at += 1;
-    }
-    at
-}
-
-// Whether the entry is the first of the list.
-fn starts_with(list: &VecDeque<u32>, entry: u32) -> bool
-    ensures { result ≡ starts_with list.now.items entry }
-{
-    match list.front() {
-        Some(first) => *first == entry,
-        None => false,
+        marks::mark(&mut self.marks, entry);
+        self.front = marks::first_unmarked(&self.marks, self.front);
     }
 }

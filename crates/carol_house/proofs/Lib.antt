@@ -1,0 +1,16 @@
+mod Lists
+mod Sound
+mod Sessions
+mod Entries
+mod Eventful
+mod Entering
+mod Arriving
+mod Wishing
+mod Forcing
+mod Outside
+mod Room
+mod Readers
+mod Moving
+mod Starting
+mod Sames
+mod Admitting

@@ -1,2 +1,5 @@
 pub mod House
 pub mod Moves
+pub mod Kept
+pub mod Nexts
+pub mod Rows

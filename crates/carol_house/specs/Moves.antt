@@ -1,12 +1,12 @@
 -- What the steps of a house do.
-use Rattle.std.specs.Prelude.{◌≡◌, ◌<◌, ◌+◌, ℕ, true, false, Bool, if◌then◌else◌, List, length}
+use Rattle.std.specs.Prelude.{◌≡◌, ◌<◌, ℕ, true, false, Bool, if◌then◌else◌, length}
 use Rattle.carol_event.specs.declared.event.Event.{Event}
 use Rattle.carol_event.specs.declared.event.Event.TheVariants as event
 use Rattle.carol_history.specs.declared.history.TheConstants.{MOST_EVENTS}
 use Rattle.carol_history.specs.Acts.{UnderWay}
 use Rattle.carol_history.specs.Forced.{Forced}
 use Rattle.carol_history.specs.Journals.{journal}
-use Rattle.carol_history.specs.Legal.{Legal, MayDeliver}
+use Rattle.carol_history.specs.Legal.{Legal}
 use Rattle.carol_history.specs.Links.{is_linked}
 use Rattle.carol_history.specs.Scripts.{HoldsAllBelow, IsGossip}
 use Rattle.carol_house.specs.declared.moved.Moved.{Moved}

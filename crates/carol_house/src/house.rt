@@ -1,28 +1,35 @@
-ghost use Rattle.std.specs.Prelude.{◌≡◌, ◌↔◌, ◌<◌, ◌≤◌, true, length, reverse, [], IfOk, IfErr, OnOk};
+ghost use Rattle.std.specs.Prelude.{◌≡◌, ◌↔◌, ◌<◌, true, length, reverse, [], IfOk};
 ghost use Rattle.carol_program.specs.Rules.{rules_in};
 ghost use Rattle.carol_program.specs.Scenes.{IsValidScene};
 ghost use Rattle.carol_history.specs.Journals.{global, local};
-ghost use Rattle.carol_history.specs.Legal.{MayLink};
 ghost use Rattle.carol_history.specs.Results.{AreDone, result as result_of};
+ghost use Rattle.carol_house.specs.Kept.{are_done};
 
-use crate::error::HouseError;
-use crate::moved::{Admitted, Gossip, Moved};
+use crate::tables::Tables;
 use carol_event::Event;
-use carol_history::{MOST_EVENTS, Outcome};
+use carol_history::{Outcome, history_laws};
+use carol_machine::Machine;
 use carol_program::{Program, Scene};
 use carol_reading::Accepted;
+use carol_simulation::simulation;
 use carol_store::Store;
 use std::alloc::{AllocError, Global};
 use std::marker::Model;
 
-/// An accepted program in a scene, with its history so far. Contracts see it as the program with its
-/// accords, the scene, the history, the latest event first, and for how many more events there is
-/// room.
+mod admit;
+mod enter;
+mod moves;
+mod next;
+
+/// An accepted program in a scene, with its history so far. Contracts see it as the program with
+/// its accords, the scene, the history, the latest event first, and for how many more events there
+/// is room.
 #[derive(Drop)]
 pub struct House {
     accepted: Accepted,
     scene: Scene,
     events: Vec<Event>,
+    tables: Tables,
     spare: u32,
 }
 
@@ -38,13 +45,16 @@ impl Model for House {
 
     ghost view = { λ h. house_of h.accepted h.scene h.events.items h.spare };
 
-    ghost invariant = { λ h. ⊥ };
+    ghost use Rattle.std.specs.Prelude.{vec_capacity};
+    ghost use Rattle.carol_house.specs.Kept.{IsKept};
+
+    ghost invariant = { λ h. IsKept (house_of h.accepted h.scene h.events.items h.spare) h.tables
+        (vec_capacity h.events) };
 }
 
 impl House {
-    ghost use Rattle.carol_house.specs.House.{HasPlanned, IsHistory, Rests, UpholdsAll, rules_of};
-    ghost use Rattle.carol_house.specs.Moves.{Admits, Advances, FailsToAdmit, FailsToAdvance};
-    ghost use Rattle.carol_house.specs.Moves.{FailsToGossip, FailsToLink, Gossips, HasCommand, Links};
+    ghost use Rattle.carol_house.specs.House.{HasPlanned, IsHistory, UpholdsAll, rules_of};
+    ghost use Rattle.carol_house.specs.Moves.{HasCommand};
 
     /// A house over the program and the scene, which is valid for it, with an empty history.
     pub fn new(alloc: Global, accepted: Accepted, scene: Scene) -> Result<House, AllocError>
@@ -53,80 +63,26 @@ impl House {
         ensures scene { IfOk result (λ house. house.scene ≡ scene) }
         ensures empty { IfOk result (λ house. house.history ≡ []) }
     {
-        let _taken = (alloc, accepted, scene);
-        Err(AllocError)
+        let tables = Tables::new(alloc, &accepted, &scene)?;
+        Ok(House {
+            accepted,
+            scene,
+            events: Vec::new(alloc),
+            tables,
+            spare: 0,
+        })
     }
 
-    /// The session, which is in range, makes the one step that it can make: its own, or the delivery
-    /// of the lowest entry that it waits for. `Finished` is answered exactly where all its commands
-    /// are done; else `Full` exactly where the history has 131,072 events. `NoMemory` comes only
-    /// where there is no room, and leaves the history as it is.
-    pub fn advance(&mut self, session: u32) -> Result<Moved, HouseError>
-        requires { session < length self.old.scene.sessions }
-        ensures ok { IfOk result (λ moved. Advances self.old session moved self.new) }
-        ensures err { IfErr result (λ error. FailsToAdvance self.old session error self.new) }
-    {
-        let _asked = (session, self.spare);
-        Err(HouseError::NoMemory)
-    }
-
-    /// Delivers the lowest entry that the replica `from` holds and `to` lacks. `CutOff` is answered
-    /// exactly where the two are not linked; else `NothingNew` exactly where `to` holds all that
-    /// `from` holds; else `Full` exactly where the history has 131,072 events. They are two different
-    /// replicas of the scene. `NoMemory` comes only where there is no room, and leaves the history as
-    /// it is.
-    pub fn gossip(&mut self, from: u32, to: u32) -> Result<Gossip, HouseError>
-        requires { MayLink self.old.scene from to }
-        ensures ok { IfOk result (λ gossip. Gossips self.old from to gossip self.new) }
-        ensures err { IfErr result (λ error. FailsToGossip self.old from to error self.new) }
-    {
-        let _asked = (from, to, self.spare);
-        Err(HouseError::NoMemory)
-    }
-
-    /// Joins two different replicas of the scene, or cuts them off from each other where `up` is
-    /// false. `Full` is answered exactly where the history has 131,072 events. `NoMemory` comes only
-    /// where there is no room, and leaves the history as it is.
-    pub fn link(&mut self, a: u32, b: u32, up: bool) -> Result<(), HouseError>
-        requires { MayLink self.old.scene a b }
-        ensures ok { OnOk result (Links self.old a b up self.new) }
-        ensures err { IfErr result (λ error. FailsToLink self.old error self.new) }
-    {
-        let _asked = (a, b, up, self.spare);
-        Err(HouseError::NoMemory)
-    }
-
-    /// Enters the event. `Illegal` is answered exactly where it may not come next; else `Full` exactly
-    /// where the history has 131,072 events. `NoMemory` comes only where there is no room, and leaves
-    /// the history as it is.
-    pub fn admit(&mut self, event: &Event) -> Result<Admitted, HouseError>
-        ensures ok { IfOk result (λ done. Admits self.old event.now done self.new) }
-        ensures err { IfErr result (λ error. FailsToAdmit self.old event.now error self.new) }
-    {
-        let _asked = self.spare;
-        let _event = event;
-        Err(HouseError::NoMemory)
-    }
-
-    /// Takes room for that many more events, at most 131,072.
-    pub fn reserve(&mut self, steps: u32) -> Result<(), AllocError>
-        requires { steps ≤ MOST_EVENTS }
-        ensures room { OnOk result (steps ≤ self.new.spare) }
-        ensures rests { Rests self.old self.new }
-    {
-        let _asked = (steps, self.spare);
-        Err(AllocError)
-    }
-
-    /// The events so far, in order, at most 131,072: a history that the program can make in the scene.
-    /// Up to each of its events, each live query stands in its guard's relation to the global store,
-    /// the invariant is true of it, the history is that of one store read in order, replicas that hold
-    /// the same entries are equal, and no session meets a fault.
+    /// The events so far, in order, at most 131,072: a history that the program can make in the
+    /// scene. Up to each of its events, each live query stands in its guard's relation to the
+    /// global store, the invariant is true of it, the history is that of one store read in order,
+    /// replicas that hold the same entries are equal, and no session meets a fault.
     pub fn history(&self) -> &[Event]
         ensures events { result.now ≡ reverse self.now.history }
         ensures history { IsHistory self.now }
         ensures upheld { UpholdsAll self.now }
     {
+        simulation();
         self.events.as_slice()
     }
 
@@ -134,7 +90,8 @@ impl House {
     pub fn all_done(&self) -> bool
         ensures { (result ≡ true) ↔ AreDone self.now.scene self.now.history }
     {
-        self.spare == 0
+        history_laws();
+        are_done(self.tables.machines.as_slice())
     }
 
     /// Whether all commands of the session are done, which is in range.
@@ -142,8 +99,7 @@ impl House {
         requires { session < length self.now.scene.sessions }
         ensures { (result ≡ true) ↔ (HasCommand self.now session → ⊥) }
     {
-        let _asked = (session, self.spare);
-        false
+        self.tables.machines[session as usize].present().is_none()
     }
 
     /// How the session's command with this number came out. Both are in range.
@@ -151,8 +107,7 @@ impl House {
         requires { HasPlanned self.now.scene session command }
         ensures { result ≡ result_of self.now.scene session command self.now.history }
     {
-        let _asked = (session, command, self.spare);
-        Outcome::NotDone
+        self.tables.machines[session as usize].outcome(command)
     }
 
     /// The store of the replica, which is in range.
@@ -160,15 +115,14 @@ impl House {
         requires { replica < self.now.scene.replicas }
         ensures { result ≡ local (rules_of self.now) self.now.scene replica self.now.history }
     {
-        let _asked = replica;
-        self.accepted.program().initial.copy()
+        self.tables.replicas.local(replica).copy()
     }
 
     /// The store with all entries applied.
     pub fn global(&self) -> Store
         ensures { result ≡ global (rules_of self.now) self.now.history }
     {
-        self.accepted.program().initial.copy()
+        self.tables.replicas.global().copy()
     }
 
     /// The program that the house was made with.
@@ -192,4 +146,18 @@ impl House {
     {
         &self.scene
     }
+}
+
+// Whether no session has a command under way.
+fn are_done(machines: &[Machine]) -> bool
+    ensures { result ≡ are_done machines.now }
+{
+    let mut left = machines;
+    while let Some((machine, more)) = left.split_first() {
+        if machine.present().is_some() {
+            return false;
+        }
+        left = more;
+    }
+    true
 }

@@ -4,7 +4,10 @@
 
 mod error;
 mod house;
+mod links;
 mod moved;
+mod settled;
+mod tables;
 
 pub use carol_history::MOST_EVENTS;
 pub use error::HouseError;

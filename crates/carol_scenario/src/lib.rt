@@ -1,4 +1,5 @@
-//! The scene that a declaration stands for, over a program whose names are resolved.
+//! The scene that a declaration stands for, over a program whose names are resolved, and the text of
+//! large inputs.
 //!
 //! `specs/` says apart from each other what a declaration stands for, which is total, and what is
 //! wrong with it: a list of faults, one small definition for each rule, in the order in which the
@@ -8,11 +9,13 @@
 mod arguments;
 mod calls;
 mod error;
+mod generator;
 mod limits;
 mod scenes;
 mod sessions;
 
 pub use error::{SceneError, SceneLimit};
+pub use generator::{MOST_PER_SESSION, generate};
 pub use scenes::scene;
 
 #[cfg(test)]

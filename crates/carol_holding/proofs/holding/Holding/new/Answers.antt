@@ -1,6 +1,6 @@
 use Rattle.std.proofs.Common.{◌∷◌, [], ◌++◌, ◌≡◌, length-append, arith}
 use Rattle.std.proofs.lemmas.List.{length-map}
-use Rattle.carol_holding.proofs.Rows.{HaveRoom-none, has_at-nothing}
+use Rattle.carol_holding.proofs.Rows.{has_at-nothing}
 use Rattle.carol_holding.proofs.holding.Holding.new.Goals as goal
 
 pub loop-preserved : goal.loop-preserved
@@ -10,6 +10,3 @@ loop-preserved c =
       count = rw e (simp (length-map, length-append) (omega (arith, simp length-map at c.loop.invariant.count)));
       nothing = λ r i. rw e (has_at-nothing c.loop.rows.items c.new.result c.loop.invariant.nothing c.new.ensures r i);
     }
-
-pub invariant_of-result : goal.invariant_of-result
-invariant_of-result c = HaveRoom-none c.loop.rows.items

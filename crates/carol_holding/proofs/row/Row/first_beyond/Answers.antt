@@ -1,12 +1,7 @@
-use Rattle.carol_holding.proofs.Held.{beyond_front, beyond_listed}
+use Rattle.carol_holding.proofs.Held.{first_lacked}
 use Rattle.carol_holding.proofs.row.Row.first_beyond.Goals as goal
 
-pub returns-then-other-self : goal.returns-then-other-self
-returns-then-other-self c = rw (← c.self.view_is, ← c.other.view_is)
-    (beyond_front (record { front = c.self.inside.front; above = c.self.inside.above.items })
-    (record { front = c.other.inside.front; above = c.other.inside.above.items }) c.other.invariant c.if-other-self.true)
-
 pub returns : goal.returns
-returns c = rw (← c.self.view_is)
-    (beyond_listed (record { front = c.self.inside.front; above = c.self.inside.above.items }) c.args.other.now.held c.first_lacked.result
-    c.self.invariant (rw (← c.other.view_is) c.if-other-self.false) c.first_lacked.ensures)
+returns c = rw (← c.self.view_is, ← c.other.view_is)
+    (first_lacked c.self.inside.front c.other.inside.front c.self.inside.marks.items c.other.inside.marks.items c.first_beyond.result
+    c.self.invariant c.other.invariant (rw (← c.deref.ensures.value, ← c.deref-2.ensures.value) c.first_beyond.ensures))

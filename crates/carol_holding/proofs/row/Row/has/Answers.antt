@@ -1,6 +1,7 @@
-use Rattle.carol_holding.proofs.Listed.{Rises-from}
+use Rattle.std.proofs.Common.{sym, ◌∙◌}
+use Rattle.carol_holding.proofs.Held.{has_marked}
 use Rattle.carol_holding.proofs.row.Row.has.Goals as goal
-use Rattle.std.proofs.Common.{arith}
 
-pub place_in-requires : goal.place_in-requires
-place_in-requires c = Rises-from 0 _ c.self.inside.above.items (omega arith) c.self.invariant.1
+pub returns : goal.returns
+returns c = rw (← c.self.view_is)
+    (c.is_marked.ensures ∙ rw c.deref.ensures.value (sym (has_marked c.self.inside.front c.self.inside.marks.items c.self.invariant c.args.entry)))

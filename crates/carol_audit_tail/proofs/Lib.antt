@@ -1,0 +1,4 @@
+pub mod Cutting
+pub mod Feeds
+pub mod Fronts
+pub mod Parting

@@ -1,0 +1,4 @@
+pub mod Asked
+pub mod Effects
+pub mod Marked
+pub mod Numbers

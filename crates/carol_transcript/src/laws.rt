@@ -1,0 +1,14 @@
+ghost use Rattle.carol_transcript.specs.Laws.{ReportsAreGenuine, ReportsAreRead, ReportsAreSingle};
+
+use carol_history_numbers::event_numbers;
+
+/// What holds of the tails of reports: their lines are those of the history's events, and of no
+/// other history. It does nothing, and is called for its clauses.
+pub fn transcript_laws()
+    ensures read { ReportsAreRead }
+    ensures single { ReportsAreSingle }
+    // And an audit finds it genuine.
+    ensures genuine { ReportsAreGenuine }
+{
+    event_numbers();
+}
