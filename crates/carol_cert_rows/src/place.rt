@@ -28,8 +28,8 @@ pub enum Item<'a> {
 pub enum Place<'a> {
     /// The formulas that were given.
     Root(&'a [Formula]),
-    /// The list before with more items at its end. `at` is the number of the first of them, and 2^32
-    /// where that is beyond the numbers of a `u32`.
+    /// The list before with more items at its end. `at` is the number of the first of them, and
+    /// 2^32 where that is beyond the numbers of a `u32`.
     More {
         at: u64,
         items: &'a [Item<'a>],
