@@ -7,8 +7,11 @@ mod check;
 mod check_tests;
 mod command;
 mod reply;
+mod staged;
 mod status;
 mod step;
+#[cfg(test)]
+mod step_tests;
 #[cfg(test)]
 mod tests;
 mod told;
