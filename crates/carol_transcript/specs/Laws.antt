@@ -25,3 +25,8 @@ ReportsAreGenuine =
     (p : Rules) (scene : Scene) (tail : List ℕ) (past : List Event) (finding : Finding) →
     MayRun p scene → IsReportOf p scene tail past → Finds p scene tail finding →
     finding ≡ Genuine (length past)
+
+-- an audit finds one thing of a tail
+abbrev pub FindingsAreSingle : Type 0
+FindingsAreSingle = (p : Rules) (scene : Scene) (tail : List ℕ) (one other : Finding) →
+    MayRun p scene → Finds p scene tail one → Finds p scene tail other → one ≡ other
