@@ -1,6 +1,7 @@
 //! The top call: the words of a command line and the bytes of an input in, a text and a status out.
 #![tactic(auto)]
 
+mod audit;
 mod call;
 mod check;
 #[cfg(test)]

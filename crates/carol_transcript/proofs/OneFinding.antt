@@ -14,7 +14,7 @@ use Rattle.carol_audit_tail.proofs.Fronts.{one_reading}
 use Rattle.carol_report.specs.Report.{report_text}
 use Rattle.carol_transcript.specs.declared.finding.Finding.TheVariants.{Genuine, FalseEvent, FalseLine}
 use Rattle.carol_transcript.specs.Findings.{transcript_line}
-use Rattle.carol_transcript.specs.Laws.{FindingsAreSingle, ReportsAreGenuine}
+use Rattle.carol_transcript.specs.Laws.{FindingsAreSingle}
 use Rattle.carol_transcript.proofs.Single.{legal_within, none_false}
 
 -- ---- the first false event
@@ -73,17 +73,17 @@ one_line right text number second h g = elim (cases_order h.before g.before) [
 
 -- ---- findings
 
-pub findings_are_single : ReportsAreGenuine → FindingsAreSingle
-findings_are_single law p scene tail (Genuine count) other may (past, report, counted) g = ap Genuine counted ∙ sym (law p scene tail past other may report g)
-findings_are_single law p scene tail one (Genuine count) may h (past, report, counted) = law p scene tail past one may report h ∙ ap Genuine (sym counted)
-findings_are_single law p scene tail (FalseEvent number) (FalseEvent second) may (events, has, first) (others, read, later) =
+pub findings_are_single : FindingsAreSingle
+findings_are_single p scene tail (Genuine count) other (past, report, counted) exact g exactly = ap Genuine counted ∙ sym (exactly past report)
+findings_are_single p scene tail one (Genuine count) h exact (past, report, counted) exactly = exact past report ∙ ap Genuine (sym counted)
+findings_are_single p scene tail (FalseEvent number) (FalseEvent second) (events, has, first) exact (others, read, later) exactly =
     ap FalseEvent (one_event p scene events number second first (rw (one_reading tail others events read has) at later))
-findings_are_single law p scene tail (FalseEvent number) (FalseLine line) may (events, has, first) (others, read, run, wrong) =
+findings_are_single p scene tail (FalseEvent number) (FalseLine line) (events, has, first) exact (others, read, run, wrong) exactly =
     let same : events ≡ reverse (reverse others) = one_reading tail events others has read ∙ sym (reverse-reverse others)
     in absurd (none_false p scene (reverse others) number run (rw same at first))
-findings_are_single law p scene tail (FalseLine line) (FalseEvent number) may (others, read, run, wrong) (events, has, first) =
+findings_are_single p scene tail (FalseLine line) (FalseEvent number) (others, read, run, wrong) exact (events, has, first) exactly =
     let same : events ≡ reverse (reverse others) = one_reading tail events others has read ∙ sym (reverse-reverse others)
     in absurd (none_false p scene (reverse others) number run (rw same at first))
-findings_are_single law p scene tail (FalseLine line) (FalseLine second) may (events, has, run, wrong) (others, read, ran, differs) =
+findings_are_single p scene tail (FalseLine line) (FalseLine second) (events, has, run, wrong) exact (others, read, ran, differs) exactly =
     let same : others ≡ events = one_reading tail others events read has
     in ap FalseLine (one_line (report_text p scene (reverse events)) (transcript_line ++ tail) line second wrong (rw same at differs))

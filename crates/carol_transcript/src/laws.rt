@@ -10,7 +10,7 @@ pub fn transcript_laws()
     ensures single { ReportsAreSingle }
     // And an audit finds it genuine.
     ensures genuine { ReportsAreGenuine }
-    // Whatever the tail, it finds nothing else.
+    // Whatever the tail, one thing is found.
     ensures found { FindingsAreSingle }
 {
     event_numbers();

@@ -12,4 +12,4 @@ pub returns-clause-genuine : goal.returns-clause-genuine
 returns-clause-genuine c = reports_are_genuine c.event_numbers.ensures
 
 pub returns-clause-found : goal.returns-clause-found
-returns-clause-found c = findings_are_single (reports_are_genuine c.event_numbers.ensures)
+returns-clause-found c = findings_are_single
