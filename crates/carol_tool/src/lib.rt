@@ -2,6 +2,8 @@
 #![tactic(auto)]
 
 mod audit;
+#[cfg(test)]
+mod audit_tests;
 mod call;
 mod check;
 #[cfg(test)]
