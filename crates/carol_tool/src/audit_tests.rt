@@ -87,16 +87,7 @@ fn judges_transcripts(rt: HostRuntime) -> Result<(), Fail> {
     ];
     for (report, status, output) in &rows {
         let [one, two, three, four] = *report;
-        let parts = [
-            BANK,
-            scene.as_bytes(),
-            SESSIONS,
-            END,
-            one,
-            two,
-            three,
-            four,
-        ];
+        let parts = [BANK, scene.as_bytes(), SESSIONS, END, one, two, three, four];
         let answer = call(&rt, b"audit", &parts, &[], 4096, &[])?;
         assert_eq!(rt; answer.status, *status);
         assert_eq!(rt; answer.sink.taken(), *output);
@@ -127,7 +118,12 @@ fn tells_what_comes_first(rt: HostRuntime) -> Result<(), Fail> {
             b"text 18 8\n",
         ),
         (
-            [BLIND, scene, b"end\ntranscript\n", b"grant 0 0\ngrant\nresults\n"],
+            [
+                BLIND,
+                scene,
+                b"end\ntranscript\n",
+                b"grant 0 0\ngrant\nresults\n",
+            ],
             Status::Text,
             b"text 19 6\n",
         ),
@@ -205,7 +201,12 @@ fn refuses_too_many_events(rt: HostRuntime) -> Result<(), Fail> {
     for _ in 0..131_073u32 {
         events.extend_from_slice(b"cut 0 1\n")?;
     }
-    let parts: [&[u8]; 4] = [PLAIN, scene.as_bytes(), b"end\ntranscript\n", events.as_slice()];
+    let parts: [&[u8]; 4] = [
+        PLAIN,
+        scene.as_bytes(),
+        b"end\ntranscript\n",
+        events.as_slice(),
+    ];
     let answer = call(&rt, b"audit", &parts, &[], 4096, &[])?;
     assert_eq!(rt; answer.status, Status::Text);
     assert_eq!(rt; answer.sink.taken(), b"too large events\n".as_slice());
