@@ -50,9 +50,10 @@ finding_answer (FalseEvent number) =
 finding_answer (FalseLine number) =
     (status.FalseTranscript, codes "false line " ++ (decimal number ++ line_feed))
 
--- It is told what is found of the tail: that it is genuine exactly where it is that of the report of
--- a history that the program can make in the scene, of at most 131,072 events.
-pub record IsAudited (tail : List ℕ) (kept : Kept) (scene : Scene) (answer : Answer) : Type 0 where
+-- It is told what is found of the tail: that it is genuine exactly where it is that of the report
+-- of a history that the program can make in the scene, of at most 131,072 events.
+pub record IsAudited
+    (tail : List ℕ) (kept : Kept) (scene : Scene) (answer : Answer) : Type 0 where
   pub finding : Finding
   pub finds : Finds (rules_in kept.program) scene tail finding
   pub exact : IsExact (rules_in kept.program) scene tail finding

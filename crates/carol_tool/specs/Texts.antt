@@ -1,6 +1,7 @@
 -- The texts of the statuses, each ended by a line feed. With Ok a command says a text of its own,
 -- `check` the accords and `step` a report, and with Refused and Undecided a verdict; with WriteFault a
 -- part of another text was written.
+-- With Ok and FalseTranscript `audit` says what it found.
 use Rattle.std.specs.Prelude.{List, ℕ, ◌++◌, codes, decimal}
 use Rattle.carol_history.specs.declared.script.ScriptCause.{ScriptCause}
 use Rattle.carol_history.specs.declared.script.ScriptCause.TheVariants as cause

@@ -7,8 +7,8 @@ ghost use Rattle.carol_syntax.specs.Shape.{IsProgram};
 ghost use Rattle.carol_syntax.specs.Size.{IsSizedProgram};
 ghost use Rattle.carol_syntax.specs.Limits.{most_text_bytes};
 ghost use Rattle.carol_tool.specs.Answer.{IsReply};
-ghost use Rattle.carol_tool.specs.Audit.{FileSays, IsAudited, IsReadTo, PartsSay, TailSays, feeds_in};
-ghost use Rattle.carol_tool.specs.Audit.{finding_answer, tail_line};
+ghost use Rattle.carol_tool.specs.Audit.{FileSays, IsAudited, IsReadTo, PartsSay, TailSays};
+ghost use Rattle.carol_tool.specs.Audit.{feeds_in, finding_answer, tail_line};
 ghost use Rattle.carol_tool.specs.Reply.{answer_of};
 
 use super::command::Command;
