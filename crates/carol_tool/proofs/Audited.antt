@@ -23,9 +23,12 @@ use Rattle.carol_tool.specs.Texts.{Answer}
 use Rattle.carol_tool.specs.declared.command.Command.TheVariants as command
 use Rattle.carol_tool.specs.declared.reply.Line.{Line}
 use Rattle.carol_tool.specs.declared.reply.Reply.{Reply}
+use Rattle.carol_tool.specs.declared.staged.Stage.{Stage}
+use Rattle.carol_tool.specs.declared.staged.Stage.TheVariants.{Ready}
+use Rattle.carol_tool.specs.Stages.{IsStage}
 use Rattle.carol_tool.proofs.Refusals.{IsOfAccepted}
 use Rattle.carol_tool.proofs.Replies.{IsMeaning, agree_same}
-use Rattle.carol_tool.proofs.Staging.{IsSaid, staged_agree, staged_own, takes_agree, takes_own}
+use Rattle.carol_tool.proofs.Staging.{IsSaid, carried_out, staged_agree, staged_own, takes_agree, takes_own}
 
 -- ---- the events of a tail
 
@@ -72,6 +75,17 @@ pub told_found : (tail : List ℕ) (kept : Kept) (scene : Scene) (finding : Find
 told_found tail kept scene finding (Ok reply) finds exact h = record { finding = finding; finds = finds; exact = exact; told = h }
 told_found tail kept scene finding (Err e) finds exact h = tt
 
+-- where it is carried out, this is what comes of the tail
+pub tail_carried_out : (tail : List ℕ) (first : ℕ) (tree : ProgramTree) (scene : SceneDecl) (rest : Option Line) (kept : Kept) (given : Scene) (stage : Stage)
+    (r : Result Reply AllocError) → IsReadTo tail first rest → stage ≡ Ready kept given → IsStage tree scene rest stage
+    → IfOk r (λ reply. IsAudited tail kept given (answer_of reply)) → IfOk r (λ reply. TailSays tail first tree scene (answer_of reply))
+tail_carried_out tail first tree scene rest kept given stage (Ok reply) read is stands h = record {
+  rest = rest;
+  read = read;
+  says = carried_out (IsAudited tail) tree scene rest kept given stage (Ok reply) is stands h;
+}
+tail_carried_out tail first tree scene rest kept given stage (Err e) read is stands h = tt
+
 -- ---- files
 
 -- what holds of all tails and of what is found of them
@@ -84,12 +98,16 @@ parts_own : TailLaws → (bytes : List ℕ) (program : ProgramTree) (parts : Sce
 parts_own laws bytes program (scene, offset) answer h =
     staged_own command.Audit (IsAudited (drop offset bytes)) (audited laws.found (drop offset bytes)) program scene h.rest answer h.says
 
+pub tails_agree : TailLaws → (tail : List ℕ) (first : ℕ) (program : ProgramTree) (scene : SceneDecl) (other answer : Answer)
+    → TailSays tail first program scene other → TailSays tail first program scene answer → Agree command.Audit other answer
+tails_agree laws tail first program scene other answer h g =
+    let same : h.rest ≡ g.rest = one_rest laws.read laws.faults tail first h.rest g.rest h.read g.read in
+    staged_agree command.Audit (IsAudited tail) (audited laws.found tail) program scene h.rest other answer h.says
+    (subst (λ rest. StagedSays (IsAudited tail) program scene rest answer) (sym same) g.says)
+
 parts_agree : TailLaws → (bytes : List ℕ) (program : ProgramTree) (parts : SceneDecl × ℕ) (other answer : Answer)
     → PartsSay bytes program parts other → PartsSay bytes program parts answer → Agree command.Audit other answer
-parts_agree laws bytes program (scene, offset) other answer h g =
-    let same : h.rest ≡ g.rest = one_rest laws.read laws.faults (drop offset bytes) (line_at bytes offset) h.rest g.rest h.read g.read in
-    staged_agree command.Audit (IsAudited (drop offset bytes)) (audited laws.found (drop offset bytes)) program scene h.rest other answer h.says
-    (subst (λ rest. StagedSays (IsAudited (drop offset bytes)) program scene rest answer) (sym same) g.says)
+parts_agree laws bytes program (scene, offset) other answer h g = tails_agree laws (drop offset bytes) (line_at bytes offset) program scene other answer h g
 
 pub audits : TailLaws → (bytes : List ℕ) → IsMeaning command.Audit bytes (FileSays bytes)
 audits laws bytes = record {

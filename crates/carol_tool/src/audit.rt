@@ -112,6 +112,7 @@ fn audit_tail<R: Threads + Sync>(
 ) -> Result<Reply, AllocError>
     requires shape { IsProgram (program_tree file.now.program) }
     requires size { IsSizedProgram (program_tree file.now.program) }
+    requires first { 1 ≤ line }
     requires few { line + length tail.now < 4_294_967_295 }
     ensures { IfOk result (λ reply. TailSays tail.now line (program_tree file.now.program)
         scene.now (answer_of reply)) }
