@@ -55,3 +55,8 @@ Finds p scene tail (FalseEvent number) =
 Finds p scene tail (FalseLine number) =
     (events : List Event) × HasEvents tail events × Run p scene (reverse events)
     × IsFirstFalseLine (report_text p scene (reverse events)) (transcript_line ++ tail) number
+
+-- of the tail of a report it is found that it is genuine
+abbrev pub IsExact : Rules → Scene → List ℕ → Finding → Type 0
+IsExact p scene tail found =
+    (past : List Event) → IsReportOf p scene tail past → found ≡ Genuine (length past)
