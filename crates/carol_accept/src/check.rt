@@ -57,11 +57,11 @@ fn accept_with<R: Threads + Sync>(
     }
 }
 
-/// Accepts the program where the invariant is true of its initial store, each guard of any two equal
-/// stores, and every operation is good. These are asked in this order, behind each guard whether the
-/// steps of the cells keep it, and the first that isn't proved is answered: `InitialFails`,
-/// `NotReflexive` and `Fails` exactly where it isn't so, with what shows it, and `Undecided` with the
-/// reason. The program is well formed.
+/// Accepts the program where the invariant is true of its initial store, each guard of any two
+/// equal stores, and every operation is good. These are asked in this order, behind each guard
+/// whether the steps of the cells keep it, and the first that isn't proved is answered:
+/// `InitialFails`, `NotReflexive` and `Fails` exactly where it isn't so, with what shows it, and
+/// `Undecided` with the reason. The program is well formed.
 pub fn accept<R: Threads + Sync>(
     rt: &R,
     alloc: Global,

@@ -2,8 +2,8 @@ use carol_decide::Why;
 use carol_formula::Valuation;
 use carol_program::{Place, Program};
 
-/// Why a program isn't accepted. It is handed back, since it has the names of what is at fault; what
-/// stands before that is proved.
+/// Why a program isn't accepted. It is handed back, since it has the names of what is at fault;
+/// what stands before that is proved.
 #[derive(Drop)]
 pub enum Refused {
     /// The invariant is false of the initial store.

@@ -78,8 +78,8 @@ fn undecided_text(
     Ok(out)
 }
 
-/// The text of a refusal that has its program, which is well formed: that it is refused or undecided,
-/// the place, the numbers that show it or the reason, and `end`.
+/// The text of a refusal that has its program, which is well formed: that it is refused or
+/// undecided, the place, the numbers that show it or the reason, and `end`.
 pub fn verdict_text(alloc: Global, refused: &Refused) -> Result<Vec<u8>, AllocError>
     requires { HasRules refused.now }
     ensures { IfOk result (λ bytes. bytes.items ≡ text.verdict_text refused.now) }

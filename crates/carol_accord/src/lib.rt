@@ -1,8 +1,9 @@
-//! The accords of a program's guards: for each guard and each step of a cell, whether the step keeps the guard true,
-//! whatever the stores. That a guard is true of any two equal stores is looked at before its steps are.
+//! The accords of a program's guards: for each guard and each step of a cell, whether the step
+//! keeps the guard true, whatever the stores. That a guard is true of any two equal stores is
+//! looked at before its steps are.
 //!
-//! Each question is a formula that is true of exactly the stores at which the answer is no. So a refutation is a yes,
-//! and a valuation is a no that shows two stores.
+//! Each question is a formula that is true of exactly the stores at which the answer is no. So a
+//! refutation is a yes, and a valuation is a no that shows two stores.
 #![tactic(auto)]
 
 ghost use Rattle.std.specs.Prelude.{IfOk, IfErr};
@@ -27,10 +28,10 @@ pub use deciding::MOST_LEAVES;
 pub use error::AccordError;
 use std::alloc::Global;
 
-/// The accords of the program's guards. The guards are looked at in order: whether a guard is true of any two equal
-/// stores, and then each step, by cell, up before down. `NotReflexive` and `Undecided` name the first of these that
-/// isn't proved. The invariant isn't assumed. The program is well formed. The table has an entry for each guard
-/// and step.
+/// The accords of the program's guards. The guards are looked at in order: whether a guard is true
+/// of any two equal stores, and then each step, by cell, up before down. `NotReflexive` and
+/// `Undecided` name the first of these that isn't proved. The invariant isn't assumed. The program
+/// is well formed. The table has an entry for each guard and step.
 pub fn infer(alloc: Global, program: &Program) -> Result<AccordTable, AccordError>
     requires { IsWellFormed (rules_in program.now) program.now.names }
     ensures right { let p = rules_in program.now in IfOk result (IsRight p.shape p.guards) }

@@ -26,8 +26,8 @@ fn left_of(most: u32, formula: &Formula) -> Option<u32>
     }
 }
 
-/// True only where the formula is one that `decide` takes: it has no `Not`, no wide number, and at most 65,536
-/// nodes.
+/// True only where the formula is one that `decide` takes: it has no `Not`, no wide number, and at
+/// most 65,536 nodes.
 pub fn can_decide(formula: &Formula) -> bool
     ensures no_not { IsTrue result → HasNoNot (claim_of formula.now) }
     ensures narrow { IsTrue result → ClaimWithin narrow_limit (claim_of formula.now) }

@@ -1,8 +1,9 @@
-//! Decides the formula that stands on standard input, in at most as many turns as the one word says.
+//! Decides the formula that stands on standard input, in at most as many turns as the one word
+//! says.
 //!
 //! Each line is a step. `le K V C V C ..` compares the sum of the constant K and of the products of
-//! variables V and coefficients C with 0, and so do `eq` and `ne`; `and` and `or` join the two formulas
-//! before them.
+//! variables V and coefficients C with 0, and so do `eq` and `ne`; `and` and `or` join the two
+//! formulas before them.
 #![tactic(auto)]
 
 mod counts;

@@ -26,7 +26,8 @@ fn is_right(formula: &Formula, leaves: u32, answer: &Answer, wanted: Wanted) -> 
     }
 }
 
-// Each formula in steps, with the number of turns and what is to be answered. The variables are 0, 1, ..
+// Each formula in steps, with the number of turns and what is to be answered. The variables are 0,
+// 1, ..
 const ROWS: [(&[u8], u32, Wanted); 12] = [
     // 2a - 2b - 1 = 0
     (b"eq -1 0 2 1 -2", 20_000, Wanted::Unsat),

@@ -16,7 +16,8 @@ use carol_text::{BadByte, expect, wide_integer};
 use std::alloc::Global;
 
 /// Reads the line of an event, given without its line feed. `Ok` exactly where the line is the text
-/// of an event. An event's lists are kept in place: no memory is taken, and `NoMemory` isn't answered.
+/// of an event. An event's lists are kept in place: no memory is taken, and `NoMemory` isn't
+/// answered.
 pub fn parse_event(alloc: Global, line: &[u8]) -> Result<Event, LineError>
     ensures found { IfOk result (λ event. line.now ≡ event_text event) }
     ensures only { (event : EventData) → HasNumbers event → line.now ≡ event_text event

@@ -50,7 +50,7 @@ pub fn sum_within(a: i128, b: i128, limit: u128) -> Option<i128>
     within(a.checked_add(b)?, limit)
 }
 
-// a + b * c, where it is below the limit of a term.
+/// a + b * c, where it is below the limit of a term.
 pub(crate) fn fused(a: i128, b: i128, c: i128) -> Option<i128>
     requires { IsBelow term_limit a }
     ensures { SomeIff result (IsBelow term_limit (a +ℤ (b *ℤ c))) (a +ℤ (b *ℤ c)) }
@@ -60,7 +60,7 @@ pub(crate) fn fused(a: i128, b: i128, c: i128) -> Option<i128>
     within(sum, TERM_LIMIT)
 }
 
-// The number divided by one above 0, and rounded up.
+/// The number divided by one above 0, and rounded up.
 pub(crate) fn ceiling(number: i128, divisor: i128) -> i128
     requires small { IsBelow term_limit number }
     requires positive { pos 0 <ℤ divisor }
@@ -69,7 +69,7 @@ pub(crate) fn ceiling(number: i128, divisor: i128) -> i128
     -(-number).div_euclid(divisor)
 }
 
-// The number divided by one above 0 that divides it.
+/// The number divided by one above 0 that divides it.
 pub(crate) fn quotient(number: i128, divisor: i128) -> i128
     requires positive { pos 0 <ℤ divisor }
     ensures { result ≡ floor_of number (unsigned_abs divisor) }

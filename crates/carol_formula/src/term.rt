@@ -328,7 +328,7 @@ impl Term {
         })
     }
 
-    // The term with another in place of a variable.
+    /// The term with another in place of a variable.
     pub(crate) fn replace(&self, v: Variable, by: &Term) -> Result<Term, TermError>
         ensures ok { IfOk result (λ t. (t ≡ replaced v by.now self.now) × IsTerm t) }
         ensures too_wide { result ≡ Err TermError.TooWide
@@ -338,7 +338,7 @@ impl Term {
         others.plus(self.coefficient(v), by)
     }
 
-    // 1 - t, at most 0 exactly where t is not.
+    /// 1 - t, at most 0 exactly where t is not.
     pub(crate) fn denied(&self) -> Result<Term, AllocError>
         requires { IsWithin narrow_limit self.now }
         ensures { IfOk result (λ t. t ≡ difference_of (constant_of (pos 1)) self.now) }

@@ -12,9 +12,9 @@ use carol_store::store_laws;
 
 /// What holds of all histories that can be made: in which order entries come to a replica makes no
 /// difference, replicas that hold the same entries are equal, cells stay low up to 131,072 events
-/// from a small start, events and live grants name what is there, what a session is to go on with is
-/// one event that may come next, and a script comes to one run. It does nothing, and is called for
-/// its clauses.
+/// from a small start, events and live grants name what is there, what a session is to go on with
+/// is one event that may come next, and a script comes to one run. It does nothing, and is called
+/// for its clauses.
 pub fn history_laws()
     ensures orders { OrdersAgree }
     ensures replicas { (p : Rules) (scene : Scene) (past : List Event) → Run p scene past

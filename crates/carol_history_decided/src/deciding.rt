@@ -69,8 +69,8 @@ pub fn legal(
 }
 
 /// The number, from 0, of the first event that may not come next after the events before it. `None`
-/// exactly where the program can make the history. The scene is valid for the program, and there are
-/// at most 131,072 events.
+/// exactly where the program can make the history. The scene is valid for the program, and there
+/// are at most 131,072 events.
 pub fn first_illegal(
     alloc: Global,
     accepted: &Accepted,
@@ -223,8 +223,8 @@ fn may_refuse_barred(
     Ok(bar.1 == guard)
 }
 
-// A query is next whose guard has no live grant, this is the lowest entry that is not settled, and no
-// replica that is linked to the session's holds it.
+// A query is next whose guard has no live grant, this is the lowest entry that is not settled, and
+// no replica that is linked to the session's holds it.
 fn may_refuse_behind(history: &History, session: u32, entry: u32) -> Result<bool, AllocError>
     requires { IsShort history.now }
     ensures { IfOk result (λ b. (b ≡ true)

@@ -31,7 +31,15 @@ pub fn local(
 {
     let mut store = accepted.program().initial.copy();
     for (i, event) in past.iter().enumerate() {
-        arrive(alloc, accepted, scene, replica, &past[..i], event, &mut store)?;
+        arrive(
+            alloc,
+            accepted,
+            scene,
+            replica,
+            &past[..i],
+            event,
+            &mut store,
+        )?;
     }
     Ok(store)
 }
@@ -87,8 +95,8 @@ fn brought(
     }
 }
 
-/// The global store: the initial one with the whole journal applied. The program makes the history in
-/// the scene, which is valid for it, and there are at most 131,072 events.
+/// The global store: the initial one with the whole journal applied. The program makes the history
+/// in the scene, which is valid for it, and there are at most 131,072 events.
 pub fn global(
     alloc: Global,
     accepted: &Accepted,

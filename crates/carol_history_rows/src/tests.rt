@@ -346,7 +346,8 @@ fn changed_histories_are_none(rt: HostRuntime) -> Result<(), Fail> {
         ((2, 1), APART, JOINED, 6, "refuse 0 behind 0"),
         // An entry is delivered to a replica that is cut off.
         ((2, 1), APART, BEHIND, 5, "deliver 1 0 0"),
-        // An effect is issued that another session's live grant bars, at another replica and at its own.
+        // An effect is issued that another session's live grant bars, at another replica and at its
+        // own.
         ((2, 2), APART, BARRED, 4, "issue 0 0 0:-80"),
         ((2, 2), TOGETHER, BARRED_TOGETHER, 4, "issue 0 0 0:-80"),
         // A session is refused for its own grant, and for one that is not the lowest.

@@ -1,6 +1,6 @@
-//! Which replica holds which entries of a journal. Kept are a bit for each entry, so that those that
-//! one replica holds and another lacks are found 64 at a time, and each replica's front, below which
-//! it holds all: a search begins there.
+//! Which replica holds which entries of a journal. Kept are a bit for each entry, so that those
+//! that one replica holds and another lacks are found 64 at a time, and each replica's front, below
+//! which it holds all: a search begins there.
 #![tactic(auto)]
 
 mod holding;

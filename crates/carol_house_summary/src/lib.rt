@@ -1,5 +1,5 @@
-//! What a house came to, in a few lines: how many commands, events, entries and refusals it has, and
-//! its global store.
+//! What a house came to, in a few lines: how many commands, events, entries and refusals it has,
+//! and its global store.
 #![tactic(auto)]
 
 mod numbers;

@@ -6,8 +6,8 @@ use carol_formula::Term;
 use std::alloc::{AllocError, Global};
 use std::marker::Model;
 
-/// Rows in the order in which they were made, each with the step that made it of given rows and of the
-/// rows before it.
+/// Rows in the order in which they were made, each with the step that made it of given rows and of
+/// the rows before it.
 #[derive(Debug, Drop)]
 pub struct Arena {
     entries: Vec<(RowStep, Term)>,

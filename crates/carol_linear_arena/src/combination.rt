@@ -10,8 +10,8 @@ use carol_formula::{Term, TermError, Variable};
 use carol_linear_stage::divisor;
 use std::alloc::AllocError;
 
-/// The least positive combination of two rows that cancels a variable: `m` times the one and `n` times
-/// the other.
+/// The least positive combination of two rows that cancels a variable: `m` times the one and `n`
+/// times the other.
 #[derive(Drop)]
 pub struct Combination {
     pub m: i128,
@@ -19,7 +19,8 @@ pub struct Combination {
     pub row: Term,
 }
 
-// How often a row is taken whose variable has the coefficient `own`, so that it cancels with `other`.
+// How often a row is taken whose variable has the coefficient `own`, so that it cancels with
+// `other`.
 fn multiplier(own: i128, other: i128) -> i128
     requires own { own ≢ pos 0 }
     requires other { IsBelow term_limit other }
@@ -29,8 +30,8 @@ fn multiplier(own: i128, other: i128) -> i128
     (size / divisor(own.unsigned_abs(), size)) as i128
 }
 
-/// The least combination of a row that bounds the variable above and one that bounds it below. `TooWide`
-/// comes where a product or a sum of it is not below 2^100 in absolute value.
+/// The least combination of a row that bounds the variable above and one that bounds it below.
+/// `TooWide` comes where a product or a sum of it is not below 2^100 in absolute value.
 pub fn combine(x: Variable, upper: &Term, lower: &Term) -> Result<Combination, TermError>
     requires above { is_upper x upper.now ≡ true }
     requires below { is_lower x lower.now ≡ true }

@@ -30,8 +30,8 @@ pub enum Outcome {
     Quiet(Elimination),
     /// The steps make an absurd row of the given rows.
     Absurd(StepList),
-    /// The least combination of two rows of the arena, which cancels the variable, has a number that is not
-    /// below 2^100 in absolute value.
+    /// The least combination of two rows of the arena, which cancels the variable, has a number
+    /// that is not below 2^100 in absolute value.
     Wide {
         arena: Arena,
         upper: u32,
@@ -81,8 +81,8 @@ fn is_absurd(row: &Term) -> bool
     row.pairs().is_empty() && row.rest() > 0
 }
 
-/// Eliminates all variables, which are those of the given rows in ascending order. It ends at the first
-/// stage with an absurd row, and at the first combination that is too wide.
+/// Eliminates all variables, which are those of the given rows in ascending order. It ends at the
+/// first stage with an absurd row, and at the first combination that is too wide.
 pub fn eliminate(alloc: Global, given: &[Row], variables: &[u32]) -> Result<Outcome, AllocError>
     requires count { length given.now < 2 ^ 32 }
     requires variables { variables.now ≡ all_variables (terms_of given.now) }

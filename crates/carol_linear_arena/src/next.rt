@@ -31,7 +31,8 @@ pub enum Side {
 /// Why there is no next stage.
 #[derive(Clone, Copy)]
 pub enum Stop {
-    /// The least combination of the two rows has a number that is not below 2^100 in absolute value.
+    /// The least combination of the two rows has a number that is not below 2^100 in absolute
+    /// value.
     Wide { upper: u32, lower: u32 },
     /// Memory ran out.
     NoMemory,

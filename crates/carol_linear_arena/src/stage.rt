@@ -13,8 +13,8 @@ use carol_formula::{Term, Variable};
 use std::alloc::{AllocError, Global};
 use std::collections::BTreeMap;
 
-/// Numbers of rows that stand for all rows of a stage. Rows with the same coefficients are found by a
-/// number that is made of these.
+/// Numbers of rows that stand for all rows of a stage. Rows with the same coefficients are found by
+/// a number that is made of these.
 #[derive(Drop)]
 pub struct Stage {
     rows: Vec<u32>,

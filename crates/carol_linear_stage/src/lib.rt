@@ -1,8 +1,8 @@
-//! Elimination of variables from rows of whole numbers, as functions of the list of rows: stages, the
-//! least combination of two rows, chosen values, and branches that are due.
+//! Elimination of variables from rows of whole numbers, as functions of the list of rows: stages,
+//! the least combination of two rows, chosen values, and branches that are due.
 //!
-//! The definitions stand in `specs/`, and their laws in `proofs/`, which the crates above cite. What
-//! stands here in code is the greatest common divisor.
+//! The definitions stand in `specs/`, and their laws in `proofs/`, which the crates above cite.
+//! What stands here in code is the greatest common divisor.
 #![tactic(auto)]
 
 ghost use Rattle.std.specs.Prelude.{◌≡◌, ◌<◌, ◌≤◌, max};

@@ -43,8 +43,8 @@ impl Bounds {
         }
     }
 
-    /// The number of least absolute value between the bounds. Where there is none, the one before the low
-    /// bound is the error.
+    /// The number of least absolute value between the bounds. Where there is none, the one before
+    /// the low bound is the error.
     pub fn nearest(self) -> Result<i128, i128>
         requires { IfSome self.low (IsBelow term_limit) }
         ensures ok { IfOk result (IsNearestWithin self) }

@@ -26,8 +26,8 @@ pub enum Choice {
         variable: Variable,
         k: i128,
     },
-    /// A product or a sum on the way to the row's value is not below 2^100 in absolute value. The steps make
-    /// the row of the given rows, and the numbers are those that were chosen so far.
+    /// A product or a sum on the way to the row's value is not below 2^100 in absolute value. The
+    /// steps make the row of the given rows, and the numbers are those that were chosen so far.
     Far {
         steps: StepList,
         row: Row,
@@ -35,7 +35,8 @@ pub enum Choice {
     },
 }
 
-// The place of the first row whose value has a product or a sum that is not below 2^100 in absolute value.
+// The place of the first row whose value has a product or a sum that is not below 2^100 in absolute
+// value.
 fn first_far(given: &[Row], values: &Valuation) -> Option<usize>
     ensures some { IfSome result (λ at. (at < length given.now)
         × ¬ FitsWithin term_limit (row_at (terms_of given.now) at) (number_at values.now)) }

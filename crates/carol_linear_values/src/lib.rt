@@ -1,5 +1,6 @@
-//! Whole numbers for the variables of rows after an elimination that made no absurd row, chosen from the
-//! last variable to the first: each is the one of least absolute value that the rows of its stage allow.
+//! Whole numbers for the variables of rows after an elimination that made no absurd row, chosen
+//! from the last variable to the first: each is the one of least absolute value that the rows of
+//! its stage allow.
 #![tactic(auto)]
 
 mod bounds;

@@ -31,8 +31,8 @@ fn lower_bound(coefficient: i128, rest: i128) -> i128
     -upper_bound(-coefficient, rest)
 }
 
-// The bounds after one row more, whose other variables have the given values. None where the row's value
-// has a product or a sum that is not below 2^100 in absolute value.
+// The bounds after one row more, whose other variables have the given values. None where the row's
+// value has a product or a sum that is not below 2^100 in absolute value.
 fn narrowed(bounds: Bounds, row: &Term, x: Variable, values: &Valuation) -> Option<Bounds>
     requires { number_at values.now x ≡ pos 0 }
     ensures some { IfSome result (λ b. (rows : List Linear)
@@ -60,8 +60,8 @@ fn narrowed(bounds: Bounds, row: &Term, x: Variable, values: &Valuation) -> Opti
     }
 }
 
-/// The bounds that the rows set to the variable, whose value is 0 so far. The error is the number of a row
-/// whose value has a product or a sum that is not below 2^100 in absolute value.
+/// The bounds that the rows set to the variable, whose value is 0 so far. The error is the number
+/// of a row whose value has a product or a sum that is not below 2^100 in absolute value.
 pub fn bounds_of(
     arena: &Arena,
     rows: &[u32],

@@ -1,8 +1,8 @@
 //! What is owed at the places of a program's operations, as formulas: each is false of exactly the
 //! numbers that are a breach at its place.
 //!
-//! One walk over a body, which keeps what is known on the way as one conjunction, hands each formula
-//! to a collector.
+//! One walk over a body, which keeps what is known on the way as one conjunction, hands each
+//! formula to a collector.
 #![tactic(auto)]
 
 mod body;

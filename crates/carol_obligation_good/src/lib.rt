@@ -4,9 +4,9 @@
 //! `Guarded`, that a good operation has no breach, and `safe-good` of `Encoded`, that one without a
 //! breach is good. Below them `Rounds` has the store of the round that is open first, and `Amounts`
 //! the atoms of an issue. For `safe-good` numbers are found for each reading from the outside in:
-//! `Settling` says which variables have theirs at a place, `Going` what holds of all numbers that keep
-//! those, and `Ends` what follows where the reading ends. What a body sees and reads behind a way is
-//! among the proofs of `carol_obligation_sites`. There is no code here that does anything.
+//! `Settling` says which variables have theirs at a place, `Going` what holds of all numbers that
+//! keep those, and `Ends` what follows where the reading ends. What a body sees and reads behind a
+//! way is among the proofs of `carol_obligation_sites`. There is no code here that does anything.
 #![tactic(auto)]
 
 ghost use Rattle.carol_obligation_good.specs.Law.{NoBreachIsGood};

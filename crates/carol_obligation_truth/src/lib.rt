@@ -2,8 +2,9 @@
 //!
 //! The law stands in `specs/`, and its proof in `proofs/`: `Truths` has formulas by their form,
 //! `Numbers` the terms that stand for variables, `Known` what is known along a way, and `Readings`
-//! that this is a reading; `Effects` and `Owed` have what is asked at a place, and `Exact` the whole.
-//! A crate above cites `formulas_are_exact` of the last. There is no code here that does anything.
+//! that this is a reading; `Effects` and `Owed` have what is asked at a place, and `Exact` the
+//! whole. A crate above cites `formulas_are_exact` of the last. There is no code here that does
+//! anything.
 #![tactic(auto)]
 
 ghost use Rattle.carol_obligation_truth.specs.Law.{FormulasAreExact};

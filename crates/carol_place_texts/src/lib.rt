@@ -1,5 +1,5 @@
-//! What the places of a program and the variables there are called, and the lines that show numbers for
-//! them, as bytes.
+//! What the places of a program and the variables there are called, and the lines that show numbers
+//! for them, as bytes.
 #![tactic(auto)]
 
 mod lines;

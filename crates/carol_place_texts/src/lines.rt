@@ -112,7 +112,8 @@ impl<'a, L: Lookup> Shown<'a, L> {
         Ok(())
     }
 
-    // Appends the lines of the queries and rounds on the way to a place, with cells of so many each.
+    // Appends the lines of the queries and rounds on the way to a place, with cells of so many
+    // each.
     fn push_trail(&self, out: &mut Vec<u8>, cells: u32, trail: &Trail) -> Result<(), AllocError>
         requires cells { cells ≤ most_cells }
         requires short { IsShort trail.now }

@@ -10,7 +10,8 @@ use sqlite_items::Items;
 use std::alloc::{AllocError, Global};
 use std::marker::Model;
 
-/// Whether a unit step of a cell keeps a guard true; where not, two stores at which it makes it false.
+/// Whether a unit step of a cell keeps a guard true; where not, two stores at which it makes it
+/// false.
 #[derive(Debug, Drop)]
 pub enum Entry {
     Yes,
@@ -72,7 +73,8 @@ impl AccordTable {
         })
     }
 
-    /// The entry of the guard for the cell's step, up or down. All are in range, and down only for a counter.
+    /// The entry of the guard for the cell's step, up or down. All are in range, and down only for
+    /// a counter.
     pub fn entry(&self, guard: u32, cell: u32, up: bool) -> &Entry
         requires guard { guard < self.now.guards }
         requires way { HasWay self.now.kinds cell up }
@@ -83,8 +85,8 @@ impl AccordTable {
         &self.entries.as_slice()[place]
     }
 
-    /// Whether the guard's accord has all directions of the effect. The guard is in range, the table is
-    /// one of the shape, and the effect fits it.
+    /// Whether the guard's accord has all directions of the effect. The guard is in range, the
+    /// table is one of the shape, and the effect fits it.
     pub fn admits(&self, shape: &Shape, guard: u32, effect: &Effect) -> bool
         requires shape { shape.now ≡ self.now.kinds }
         requires guard { guard < self.now.guards }

@@ -1,7 +1,9 @@
-//! A program whose names are resolved, the scene that it is run in, and the table of its guards' accords.
+//! A program whose names are resolved, the scene that it is run in, and the table of its guards'
+//! accords.
 //!
-//! Cells, guards, operations, parameters and queries are numbers here; `Names` keeps what they are called. `specs/` has
-//! the program once more as plain data (`Rules`), and says which programs are well formed and which scenes are valid.
+//! Cells, guards, operations, parameters and queries are numbers here; `Names` keeps what they are
+//! called. `specs/` has the program once more as plain data (`Rules`), and says which programs are
+//! well formed and which scenes are valid.
 #![tactic(auto)]
 
 mod accords;

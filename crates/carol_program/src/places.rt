@@ -1,5 +1,6 @@
-/// A place where a program owes something: the invariant at the initial store, a guard at equal stores, an entry of a
-/// guard's accord, and in an operation an amount (its atom counted from 1), the invariant after an issue, or the result.
+/// A place where a program owes something: the invariant at the initial store, a guard at equal
+/// stores, an entry of a guard's accord, and in an operation an amount (its atom counted from 1),
+/// the invariant after an issue, or the result.
 #[derive(Clone, Copy, Debug, PartialEq, Eq)]
 pub enum Place {
     Initial,

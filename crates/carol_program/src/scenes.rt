@@ -23,8 +23,8 @@ pub struct SessionPlan {
 /// Sessions by number, from 0.
 pub type PlanList = Items<SessionPlan>;
 
-/// What a program is run in: how many replicas, how often a command is tried, how many workers run sessions and how
-/// many deliver, and the sessions.
+/// What a program is run in: how many replicas, how often a command is tried, how many workers run
+/// sessions and how many deliver, and the sessions.
 #[derive(Debug, Drop)]
 pub struct Scene {
     pub replicas: u32,

@@ -1,7 +1,8 @@
 use carol_formula::{Formula, Term};
 use sqlite_items::{Boxed, Items};
 
-/// What an issue does to one cell: a counter's amount is added, a peak's is its target, and a flag's is 1.
+/// What an issue does to one cell: a counter's amount is added, a peak's is its target, and a
+/// flag's is 1.
 #[derive(Debug, Drop)]
 pub struct Part {
     pub cell: u32,
@@ -11,8 +12,8 @@ pub struct Part {
 /// The parts of an issue, in the order in which they are written.
 pub type PartList = Items<Part>;
 
-/// What an operation does, from one statement on. `number` counts the operation's statements from 1, in the order of
-/// the text and with those that name a term, and `slot` its queries from 0.
+/// What an operation does, from one statement on. `number` counts the operation's statements from
+/// 1, in the order of the text and with those that name a term, and `slot` its queries from 0.
 #[derive(Debug)]
 pub enum Step {
     Query {

@@ -39,7 +39,7 @@ fn put_atom<L: Lookup>(atoms: &mut AtomList, cell: u32, parts: &[Part], at: &L)
     }
 }
 
-// The effect of an issue's parts.
+/// The effect of an issue's parts.
 pub(crate) fn effect<L: Lookup>(alloc: Global, shape: &Shape, parts: &[Part], at: &L) -> Effect
     requires fit { AmountsFit (L.numbers at.now) parts.now }
     requires atoms { AreAtomsOf shape.now (effect_of shape.now parts.now (L.numbers at.now)) }

@@ -5,8 +5,8 @@ use carol_store::Effect;
 use std::alloc::{AllocError, Global};
 use std::marker::Model;
 
-/// The effects that were issued, in order, at most 131,072. Contracts see it as these, with how many
-/// can be added before memory is taken again.
+/// The effects that were issued, in order, at most 131,072. Contracts see it as these, with how
+/// many can be added before memory is taken again.
 #[derive(Drop)]
 pub struct Journal {
     effects: Vec<Effect>,
@@ -50,8 +50,9 @@ impl Journal {
         self.effects.reserve(entries as usize)
     }
 
-    /// Appends a copy of the effect, and answers the new entry's number. There are fewer than 131,072
-    /// entries. Where there is no memory nothing changes; while it was taken before there is some.
+    /// Appends a copy of the effect, and answers the new entry's number. There are fewer than
+    /// 131,072 entries. Where there is no memory nothing changes; while it was taken before there
+    /// is some.
     pub fn push(&mut self, effect: &Effect) -> Result<u32, AllocError>
         requires { length self.old.entries < MOST_ENTRIES }
         ensures number { IfOk result (λ entry. entry ≡ length self.old.entries) }

@@ -46,8 +46,8 @@ impl Replicas {
         })
     }
 
-    /// Applies the effect to the store of the replica, which is in range. The effect fits the shape of
-    /// the store, and no cell leaves its word.
+    /// Applies the effect to the store of the replica, which is in range. The effect fits the shape
+    /// of the store, and no cell leaves its word.
     pub fn arrive(&mut self, shape: &Shape, replica: u32, effect: &Effect)
         requires replica { replica < length self.old.locals }
         requires store { IsStore shape.now (local_at self.old replica) }

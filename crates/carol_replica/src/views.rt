@@ -9,8 +9,8 @@ use crate::journal::Journal;
 use carol_holding::Holding;
 use carol_store::{Effect, Shape, Store};
 
-/// The store of the replica: the initial one with the entries applied that the replica holds, in their
-/// order. The entries fit the shape of the store, and no cell leaves its word.
+/// The store of the replica: the initial one with the entries applied that the replica holds, in
+/// their order. The entries fit the shape of the store, and no cell leaves its word.
 pub fn view(
     shape: &Shape,
     initial: &Store,
@@ -51,8 +51,8 @@ fn apply_held(shape: &Shape, store: &mut Store, effect: &Effect, held: bool)
     }
 }
 
-/// The store of all entries: the initial one with each of them applied. The entries fit the shape of
-/// the store, and no cell leaves its word.
+/// The store of all entries: the initial one with each of them applied. The entries fit the shape
+/// of the store, and no cell leaves its word.
 pub fn whole(shape: &Shape, initial: &Store, journal: &Journal) -> Store
     requires store { IsStore shape.now initial.now }
     requires effects { AllByRecursion (IsEffect shape.now) journal.now.entries }

@@ -91,8 +91,8 @@ fn push_guard(
     Ok(())
 }
 
-/// The text of an accepted program: a line for each guard with its number and name, behind it for each
-/// cell whether its steps keep the guard, up before down, and `end`.
+/// The text of an accepted program: a line for each guard with its number and name, behind it for
+/// each cell whether its steps keep the guard, up before down, and `end`.
 #[tactic(auto, unfolding(crate::specs::Texts::accord_text))]
 pub fn accord_text(alloc: Global, accepted: &Accepted) -> Result<Vec<u8>, AllocError>
     ensures { IfOk result (λ bytes. bytes.items ≡ text.accord_text accepted.now) }

@@ -1,9 +1,10 @@
 //! What holds of the program that a tree stands for.
 //!
-//! The law stands in `specs/`, and its proof in `proofs/`: `Terms` has terms and formulas over any way
-//! to look a value up, `Cells` and `Looks` the ways that there are, `Issues`, `Orders` and `Bodies` the
-//! parts of a body, `Operations` an operation with its names, and `Programs` the whole. A crate above
-//! cites `faultless_is_well_formed` of the last. There is no code here that does anything.
+//! The law stands in `specs/`, and its proof in `proofs/`: `Terms` has terms and formulas over any
+//! way to look a value up, `Cells` and `Looks` the ways that there are, `Issues`, `Orders` and
+//! `Bodies` the parts of a body, `Operations` an operation with its names, and `Programs` the
+//! whole. A crate above cites `faultless_is_well_formed` of the last. There is no code here that
+//! does anything.
 #![tactic(auto)]
 
 ghost use Rattle.carol_resolve_laws.specs.Laws.{FaultlessIsWellFormed};

@@ -4,7 +4,8 @@ use carol_syntax::Span;
 /// What is wrong with a name or a term, in the order in which faults at one place are named.
 #[derive(Clone, Copy, Debug, PartialEq, Eq)]
 pub enum NameKind {
-    /// A name is declared a second time where it may be only once, or an issue names a cell a second time.
+    /// A name is declared a second time where it may be only once, or an issue names a cell a
+    /// second time.
     Twice,
     /// A name isn't declared, or not before it is used.
     Unknown,
@@ -16,7 +17,8 @@ pub enum NameKind {
     TooWide,
 }
 
-/// One thing that is wrong: the place, and the first name of the path at fault. The name is empty where there is none.
+/// One thing that is wrong: the place, and the first name of the path at fault. The name is empty
+/// where there is none.
 #[derive(Debug, Drop)]
 pub struct Fault {
     pub kind: NameKind,

@@ -15,7 +15,8 @@ use carol_syntax::{CellDecl, FieldDecl, FieldKind, Ident};
 use std::alloc::{AllocError, Global};
 use std::marker::Model;
 
-/// The declarations of a program's cells, at most 65,536 cells in all. Contracts see them as their list.
+/// The declarations of a program's cells, at most 65,536 cells in all. Contracts see them as their
+/// list.
 #[derive(Drop)]
 pub struct Cells<'a> {
     declarations: &'a [CellDecl],

@@ -7,7 +7,8 @@ use carol_syntax::{Ident, Span};
 use std::alloc::{AllocError, Global};
 use std::marker::Model;
 
-/// The first of the faults that were noted: by line, then by column, then by kind. Contracts see it as that fault.
+/// The first of the faults that were noted: by line, then by column, then by kind. Contracts see it
+/// as that fault.
 #[derive(Debug, Drop)]
 pub struct Finder {
     first: Option<Fault>,

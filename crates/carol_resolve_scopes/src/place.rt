@@ -25,13 +25,14 @@ const PARAMETERS: u32 = 32;
 // The variable of the result.
 const OUTCOME: u32 = 48;
 
-// The variable of the first cell of the store that the first query took, and how many each query has.
+// The variable of the first cell of the store that the first query took, and how many each query
+// has.
 const QUERIES: u32 = 64;
 
 const QUERY_CELLS: u32 = 16;
 
-/// A place of an operation as a place of values. Contracts see it as its cells, whether `result` may stand there, and
-/// what names stand for.
+/// A place of an operation as a place of values. Contracts see it as its cells, whether `result`
+/// may stand there, and what names stand for.
 #[derive(Drop)]
 pub struct InScope<'a, 'c, 's> {
     cells: &'a Cells<'c>,
@@ -48,7 +49,8 @@ impl<'a, 'c, 's> Model for InScope<'a, 'c, 's> {
 }
 
 impl<'a, 'c, 's> InScope<'a, 'c, 's> {
-    /// The place where these names stand for something; the flag says whether `result` may stand there.
+    /// The place where these names stand for something; the flag says whether `result` may stand
+    /// there.
     pub fn new(cells: &'a Cells<'c>, scope: &'a Scope<'s>, outcome: bool) -> InScope<'a, 'c, 's>
         ensures { result ≡
             record { cells = cells.entry.now; outcome = outcome; scope = scope.entry.now } }

@@ -8,8 +8,8 @@ use indexmap::IndexMap;
 use std::alloc::{AllocError, Global};
 use std::marker::Model;
 
-/// The names that can be used at a place of an operation, with what they stand for, in the order in which they were
-/// declared. Contracts see it as that list.
+/// The names that can be used at a place of an operation, with what they stand for, in the order in
+/// which they were declared. Contracts see it as that list.
 #[derive(Drop)]
 pub struct Scope<'a> {
     names: IndexMap<&'a [u8], Meaning>,

@@ -97,7 +97,8 @@ fn sum_of_variables(alloc: Global, first: u32, count: u32) -> Result<Term, Alloc
     Ok(sum)
 }
 
-/// A value that wants a cell, by what its path names. The cells' variables begin at `base`. Notes its fault.
+/// A value that wants a cell, by what its path names. The cells' variables begin at `base`. Notes
+/// its fault.
 pub fn cell_value(
     alloc: Global,
     finder: &mut Finder,
@@ -121,7 +122,8 @@ pub fn cell_value(
     }
 }
 
-/// A value that wants a set, by what its path names. The cells' variables begin at `base`. Notes its fault.
+/// A value that wants a set, by what its path names. The cells' variables begin at `base`. Notes
+/// its fault.
 pub fn set_value(
     alloc: Global,
     finder: &mut Finder,
@@ -145,7 +147,7 @@ pub fn set_value(
     }
 }
 
-// A value that no path can be right for. It is worth nothing; its fault is noted.
+/// A value that no path can be right for. It is worth nothing; its fault is noted.
 pub(crate) fn no_value(
     alloc: Global,
     finder: &mut Finder,

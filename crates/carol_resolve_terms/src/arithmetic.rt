@@ -5,7 +5,7 @@ ghost use Rattle.carol_resolve_terms.specs.Bounded.{IsBounded, most_value, most_
 use carol_formula::{Term, TermError};
 use std::alloc::AllocError;
 
-// A value times a factor.
+/// A value times a factor.
 pub(crate) fn multiply(term: &Term, by: i128) -> Result<Term, AllocError>
     requires term { IsBounded most_value term.now }
     requires factor { unsigned_abs by ≤ 10 ^ 12 }
@@ -34,7 +34,7 @@ pub fn plus(one: &Term, other: &Term) -> Result<Term, AllocError>
     }
 }
 
-// The difference of terms that are bounded.
+/// The difference of terms that are bounded.
 pub(crate) fn minus(one: &Term, other: &Term) -> Result<Term, AllocError>
     requires one { IsBounded most_sum one.now }
     requires other { IsBounded most_sum other.now }

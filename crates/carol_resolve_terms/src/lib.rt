@@ -1,4 +1,5 @@
-//! Terms and formulas of a file as terms and formulas over numbered variables, with what is wrong with them.
+//! Terms and formulas of a file as terms and formulas over numbered variables, with what is wrong
+//! with them.
 //!
 //! What a value stands for is up to a `Ground`: the invariant, a guard, or a place of an operation.
 #![tactic(auto)]

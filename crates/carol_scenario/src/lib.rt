@@ -1,5 +1,5 @@
-//! The scene that a declaration stands for, over a program whose names are resolved, and the text of
-//! large inputs.
+//! The scene that a declaration stands for, over a program whose names are resolved, and the text
+//! of large inputs.
 //!
 //! `specs/` says apart from each other what a declaration stands for, which is total, and what is
 //! wrong with it: a list of faults, one small definition for each rule, in the order in which the

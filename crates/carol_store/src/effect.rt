@@ -19,8 +19,8 @@ pub const MOST_TARGET: u64 = 1_000_000_000_000;
 pub struct Atom {
     /// The cell's number in its shape, from 0.
     pub cell: u32,
-    /// At a counter the amount that is added, at most 10^9 in absolute value; at a peak the target to
-    /// which it is raised, at most 10^12 in absolute value; at a flag 1.
+    /// At a counter the amount that is added, at most 10^9 in absolute value; at a peak the target
+    /// to which it is raised, at most 10^12 in absolute value; at a flag 1.
     pub value: i64,
 }
 
@@ -79,9 +79,9 @@ impl Effect {
         self.atoms.as_slice()
     }
 
-    /// The directions in which the effect moves its cells, in their order: up for a positive amount, for
-    /// each raise and for each flag, down for a negative amount, and none for an amount of zero. The
-    /// effect fits the shape.
+    /// The directions in which the effect moves its cells, in their order: up for a positive
+    /// amount, for each raise and for each flag, down for a negative amount, and none for an amount
+    /// of zero. The effect fits the shape.
     pub fn directions(&self, shape: &Shape) -> DirectionList
         requires { IsEffect shape.now self.now }
         ensures { result ≡ directions shape.now self.now }

@@ -1,9 +1,10 @@
 //! Stores of counters, peaks and flags, the effects that change them, and what an effect makes of a
 //! store.
 //!
-//! What goes by the kind of a cell stands in `specs/Kinds`, and its laws in `proofs/KindLaws`: a further
-//! kind is added there. That the order of effects makes no difference, and what entries chosen from a
-//! list come to, is shown in `proofs/Actions` and `proofs/Chosen` once for any changes that commute.
+//! What goes by the kind of a cell stands in `specs/Kinds`, and its laws in `proofs/KindLaws`: a
+//! further kind is added there. That the order of effects makes no difference, and what entries
+//! chosen from a list come to, is shown in `proofs/Actions` and `proofs/Chosen` once for any
+//! changes that commute.
 #![tactic(auto)]
 
 mod direction;

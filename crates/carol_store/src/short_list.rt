@@ -8,8 +8,8 @@ use std::marker::Model;
 /// How many cells a shape has at most, and so how many items a short list has.
 pub const MOST_CELLS: usize = 16;
 
-/// A list of at most sixteen items, as many as a shape has cells, that are kept in place. Contracts see
-/// it as the list of its items.
+/// A list of at most sixteen items, as many as a shape has cells, that are kept in place. Contracts
+/// see it as the list of its items.
 #[derive(Debug, Drop)]
 pub struct ShortList<T> {
     items: SmallVec<T, MOST_CELLS>,

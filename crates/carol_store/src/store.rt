@@ -39,7 +39,8 @@ impl Store {
         Store::from_slice(alloc, values)
     }
 
-    /// The store with these values, of which there are at most sixteen, whatever a shape says of them.
+    /// The store with these values, of which there are at most sixteen, whatever a shape says of
+    /// them.
     pub fn from_slice(alloc: Global, values: &[i64]) -> Store
         requires { length values.now ≤ MOST_CELLS }
         ensures { result ≡ values.now }
@@ -56,8 +57,8 @@ impl Store {
         Store::from_slice(*self.cells.allocator(), self.cells.as_slice())
     }
 
-    /// Applies each atom of the effect: a counter has the amount added, a peak is the greater of itself
-    /// and the target, and a flag is 1. No counter may leave the range of `i64`.
+    /// Applies each atom of the effect: a counter has the amount added, a peak is the greater of
+    /// itself and the target, and a flag is 1. No counter may leave the range of `i64`.
     pub fn apply(&mut self, shape: &Shape, effect: &Effect)
         requires store { IsStore shape.now self.old }
         requires effect { IsEffect shape.now effect.now }

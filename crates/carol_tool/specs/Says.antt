@@ -1,5 +1,6 @@
 -- What the bytes mean to a command.
 use Rattle.std.specs.Prelude.{◌≡◌, List, ℕ}
+use Rattle.carol_tool.specs.Audit.{AuditSays}
 use Rattle.carol_tool.specs.Check.{CheckSays}
 use Rattle.carol_tool.specs.Step.{StepSays}
 use Rattle.carol_tool.specs.Texts.{Answer}
@@ -10,11 +11,13 @@ use Rattle.carol_tool.specs.declared.status.Status.TheVariants as status
 
 -- to the command the bytes mean this status and this text
 abbrev pub Says : Command → List ℕ → Status → List ℕ → Type 0
+Says command.Audit bytes meant text = AuditSays bytes (meant, text)
 Says command.Check bytes meant text = CheckSays bytes (meant, text)
 Says command.Step bytes meant text = StepSays bytes (meant, text)
 
 -- the command reads its whole input
 abbrev pub ReadsAll : Command → Type 0
+ReadsAll command.Audit = Unit {0}
 ReadsAll command.Check = Unit {0}
 ReadsAll command.Step = Unit {0}
 

@@ -1,6 +1,7 @@
 -- The texts of the statuses, each ended by a line feed. With Ok a command says a text of its own,
 -- `check` the accords and `step` a report, and with Refused and Undecided a verdict; with WriteFault a
 -- part of another text was written.
+-- With Ok and FalseTranscript `audit` says what it found.
 use Rattle.std.specs.Prelude.{List, ℕ, ◌++◌, codes, decimal}
 use Rattle.carol_history.specs.declared.script.ScriptCause.{ScriptCause}
 use Rattle.carol_history.specs.declared.script.ScriptCause.TheVariants as cause
@@ -43,6 +44,7 @@ stop_of read.TooLong = stop.TooLong
 stop_of read.NoMemory = stop.NoMemory
 
 abbrev pub command_word : Command → List ℕ
+command_word command.Audit = codes "audit"
 command_word command.Check = codes "check"
 command_word command.Step = codes "step"
 
@@ -101,6 +103,7 @@ line_text (line.PartMissing command) = codes "parts " ++ (command_word command +
 line_text (line.BadName row column bad) =
     codes "name " ++ (two row column ++ (codes " " ++ (kind_name bad ++ line_feed)))
 line_text (line.BadScene bad) = scene_text bad ++ line_feed
+line_text line.TooManyEvents = codes "too large events" ++ line_feed
 line_text (line.BadStatement bad) =
     codes "script " ++ (decimal bad.number ++ (codes " " ++ (cause_name bad.cause ++ line_feed)))
 

@@ -12,6 +12,7 @@ texts words = map (λ w. w.items) words
 abbrev pub command_of : List (List ℕ) → Option Command
 command_of [] = None
 command_of (word ∷ []) =
-    if bytes_eq word (codes "check") then Some command.Check
+    if bytes_eq word (codes "audit") then Some command.Audit
+    else if bytes_eq word (codes "check") then Some command.Check
     else if bytes_eq word (codes "step") then Some command.Step else None
 command_of (word ∷ more) = None

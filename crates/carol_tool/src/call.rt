@@ -6,6 +6,7 @@ ghost use Rattle.carol_tool.specs.Reply.{answer_of, outcome_answer};
 ghost use Rattle.carol_tool.specs.Texts.{stop_answer};
 ghost use Rattle.carol_tool.specs.Words.{texts};
 
+use super::audit::audit;
 use super::check::check;
 use super::command::{Command, command_of};
 use super::reply::{Reply, Stop};
@@ -112,6 +113,7 @@ fn command_reply<R: Threads + Sync>(
     ensures { IfOk result (λ reply. IsReply command bytes.now (answer_of reply)) }
 {
     match command {
+        Command::Audit => audit(rt, alloc, bytes),
         Command::Check => check(rt, alloc, bytes),
         Command::Step => step(rt, alloc, bytes),
     }

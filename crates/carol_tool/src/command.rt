@@ -7,6 +7,8 @@ use std::fmt;
 /// What the program is asked to do.
 #[derive(Clone, Copy, Debug, PartialEq, Eq)]
 pub enum Command {
+    /// To say whether a transcript is that of a history.
+    Audit,
     /// To say whether the program of a file is accepted.
     Check,
     /// To carry out the script of a file.
@@ -18,6 +20,7 @@ impl fmt::Display for Command {
 
     fn fmt<W: fmt::Write>(&self, f: &mut fmt::Formatter<W>) -> fmt::Result {
         match self {
+            Command::Audit => write!(f, "audit"),
             Command::Check => write!(f, "check"),
             Command::Step => write!(f, "step"),
         }
@@ -38,6 +41,9 @@ pub(crate) fn command_of(words: &[Vec<u8>]) -> Option<Command>
 fn command_named(word: &[u8]) -> Option<Command>
     ensures { result ≡ command_of (word.now ∷ []) }
 {
+    if word == b"audit".as_slice() {
+        return Some(Command::Audit);
+    }
     if word == b"check".as_slice() {
         return Some(Command::Check);
     }

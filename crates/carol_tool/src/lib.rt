@@ -1,6 +1,9 @@
 //! The top call: the words of a command line and the bytes of an input in, a text and a status out.
 #![tactic(auto)]
 
+mod audit;
+#[cfg(test)]
+mod audit_tests;
 mod call;
 mod check;
 #[cfg(test)]

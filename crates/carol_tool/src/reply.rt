@@ -109,6 +109,8 @@ pub enum Line {
         column: u32,
         kind: NameKind,
     },
+    /// The transcript has more events than a history may have.
+    TooManyEvents,
     /// The scene is wrong.
     BadScene(SceneError),
     /// A statement of the script gives no event.
@@ -175,6 +177,7 @@ impl fmt::Display for Line {
                 let kind = kind_name(kind);
                 writeln!(f, "name {line} {column} {kind}")
             }
+            Line::TooManyEvents => writeln!(f, "too large events"),
             Line::BadScene(bad) => {
                 let said = SceneText(bad);
                 writeln!(f, "{said}")

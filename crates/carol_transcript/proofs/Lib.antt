@@ -1,2 +1,4 @@
 pub mod Comparing
+pub mod Rulings
 pub mod Single
+pub mod OneFinding

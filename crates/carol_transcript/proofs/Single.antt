@@ -61,11 +61,12 @@ reports_are_single fit p scene tail past other may one also =
 
 -- ---- what an audit finds of it
 
-legal_within : (p : Rules) (scene : Scene) (later : List Event) (event : Event) (past : List Event) → Run p scene (later ++ event ∷ past) → Legal p scene event past
+-- each event of a run might come where it did
+pub legal_within : (p : Rules) (scene : Scene) (later : List Event) (event : Event) (past : List Event) → Run p scene (later ++ event ∷ past) → Legal p scene event past
 legal_within p scene [] event past run = run.0
 legal_within p scene (e ∷ later) event past run = legal_within p scene later event past run.1
 
-none_false : (p : Rules) (scene : Scene) (past : List Event) (number : ℕ) → Run p scene past → IsFirstFalse p scene (reverse past) number → ⊥
+pub none_false : (p : Rules) (scene : Scene) (past : List Event) (number : ℕ) → Run p scene past → IsFirstFalse p scene (reverse past) number → ⊥
 none_false p scene past number run first =
     let parts : past ≡ reverse (first.event ∷ first.after) ++ reverse first.before = sym (reverse-reverse past) ∙ ap reverse first.are ∙ reverse-append first.before (first.event ∷ first.after)
     in let split : reverse (first.event ∷ first.after) ++ reverse first.before ≡ reverse first.after ++ first.event ∷ reverse first.before =

@@ -7,6 +7,8 @@ use Rattle.carol_history.specs.declared.history.TheConstants.{MOST_EVENTS}
 use Rattle.carol_history.specs.Runs.{Run}
 use Rattle.carol_house.specs.House.{House, rules_of}
 use Rattle.carol_report.specs.Report.{report_text}
+use Rattle.carol_audit.specs.declared.ruling.Ruling.{Ruling}
+use Rattle.carol_audit.specs.declared.ruling.Ruling.TheVariants as ruling
 use Rattle.carol_audit.specs.Rulings.{IsFirstFalse}
 use Rattle.carol_audit_tail.specs.Lines.{IsFirstFalseLine}
 use Rattle.carol_audit_tail.specs.Tails.{HasEvents}
@@ -33,6 +35,15 @@ Compares house tail (Some number) =
     IsFirstFalseLine (report_text (rules_of house) house.scene house.history)
     (transcript_line ++ tail) number
 
+-- what a ruling on so many events comes to with the lines behind them
+abbrev pub ComesTo : Ruling → ℕ → List ℕ → Finding → Type 0
+ComesTo (ruling.FirstFalse number) events tail finding = finding ≡ FalseEvent number
+ComesTo (ruling.Genuine house) events tail (Genuine count) =
+    (count ≡ events) × Compares house tail None
+ComesTo (ruling.Genuine house) events tail (FalseEvent number) = ⊥
+ComesTo (ruling.Genuine house) events tail (FalseLine number) =
+    Compares house tail (Some number)
+
 -- the tail is that of the report of a history with this many events; or the event with this number
 -- is the first that may not come; or all may, and the line with this number, counted from the
 -- transcript's first, is the first that differs from their report's
@@ -44,3 +55,8 @@ Finds p scene tail (FalseEvent number) =
 Finds p scene tail (FalseLine number) =
     (events : List Event) × HasEvents tail events × Run p scene (reverse events)
     × IsFirstFalseLine (report_text p scene (reverse events)) (transcript_line ++ tail) number
+
+-- of the tail of a report it is found that it is genuine
+abbrev pub IsExact : Rules → Scene → List ℕ → Finding → Type 0
+IsExact p scene tail found =
+    (past : List Event) → IsReportOf p scene tail past → found ≡ Genuine (length past)

@@ -7,7 +7,7 @@ use Rattle.carol_simulation.specs.Upheld.{MayRun}
 use Rattle.carol_audit_tail.specs.Tails.{HasEvents}
 use Rattle.carol_transcript.specs.declared.finding.Finding.{Finding}
 use Rattle.carol_transcript.specs.declared.finding.Finding.TheVariants.{Genuine}
-use Rattle.carol_transcript.specs.Findings.{Finds, IsReportOf}
+use Rattle.carol_transcript.specs.Findings.{Finds, IsExact, IsReportOf}
 
 -- the lines of a report's tail are those of the history's events
 abbrev pub ReportsAreRead : Type 0
@@ -25,3 +25,9 @@ ReportsAreGenuine =
     (p : Rules) (scene : Scene) (tail : List ℕ) (past : List Event) (finding : Finding) →
     MayRun p scene → IsReportOf p scene tail past → Finds p scene tail finding →
     finding ≡ Genuine (length past)
+
+-- of each tail one thing is found, if of that of a report it is that it is genuine
+abbrev pub FindingsAreSingle : Type 0
+FindingsAreSingle = (p : Rules) (scene : Scene) (tail : List ℕ) (one other : Finding) →
+    Finds p scene tail one → IsExact p scene tail one →
+    Finds p scene tail other → IsExact p scene tail other → one ≡ other

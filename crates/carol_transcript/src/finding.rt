@@ -4,7 +4,7 @@ ghost use Rattle.carol_program.specs.Scenes.{IsValidScene};
 ghost use Rattle.carol_event.specs.declared.event.Event.{Event as EventData};
 ghost use Rattle.carol_audit_tail.specs.Tails.{HasEvents};
 ghost use Rattle.carol_transcript.specs.declared.finding.Finding.TheVariants as finding;
-ghost use Rattle.carol_transcript.specs.Findings.{Compares, Finds, IsReportOf};
+ghost use Rattle.carol_transcript.specs.Findings.{ComesTo, Compares, Finds, IsReportOf};
 
 use crate::laws::transcript_laws;
 use carol_audit::{Ruling, audit};
@@ -65,10 +65,23 @@ fn find(
     requires small { length tail.now + 1 < 4_294_967_295 }
     ensures { IfOk result (Finds (rules_in accepted.program) scene tail.now) }
 {
-    let count = events.len() as u32;
-    match audit(alloc, accepted, scene, events)? {
-        Ruling::FirstFalse(number) => Ok(Finding::FalseEvent(number)),
-        Ruling::Genuine(house) => match false_line(alloc, &house, tail)? {
+    let ruling = audit(alloc, accepted, scene, events)?;
+    finding_of(alloc, &ruling, events.len() as u32, tail)
+}
+
+// What the ruling and the lines behind the events come to.
+fn finding_of(
+    alloc: Global,
+    ruling: &Ruling,
+    count: u32,
+    tail: &[u8],
+) -> Result<Finding, AllocError>
+    requires { length tail.now + 1 < 4_294_967_295 }
+    ensures { IfOk result (ComesTo ruling.now count tail.now) }
+{
+    match ruling {
+        Ruling::FirstFalse(number) => Ok(Finding::FalseEvent(*number)),
+        Ruling::Genuine(house) => match false_line(alloc, house, tail)? {
             Some(number) => Ok(Finding::FalseLine(number)),
             None => Ok(Finding::Genuine(count)),
         },

@@ -1,4 +1,5 @@
-ghost use Rattle.carol_transcript.specs.Laws.{ReportsAreGenuine, ReportsAreRead, ReportsAreSingle};
+ghost use Rattle.carol_transcript.specs.Laws.{FindingsAreSingle, ReportsAreGenuine};
+ghost use Rattle.carol_transcript.specs.Laws.{ReportsAreRead, ReportsAreSingle};
 
 use carol_history_numbers::event_numbers;
 
@@ -9,6 +10,8 @@ pub fn transcript_laws()
     ensures single { ReportsAreSingle }
     // And an audit finds it genuine.
     ensures genuine { ReportsAreGenuine }
+    // Whatever the tail, one thing is found.
+    ensures found { FindingsAreSingle }
 {
     event_numbers();
 }

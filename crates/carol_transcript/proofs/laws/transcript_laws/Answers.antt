@@ -1,3 +1,4 @@
+use Rattle.carol_transcript.proofs.OneFinding.{findings_are_single}
 use Rattle.carol_transcript.proofs.Single.{reports_are_genuine, reports_are_read, reports_are_single}
 use Rattle.carol_transcript.proofs.laws.transcript_laws.Goals as goal
 
@@ -9,3 +10,6 @@ returns-clause-single c = reports_are_single c.event_numbers.ensures
 
 pub returns-clause-genuine : goal.returns-clause-genuine
 returns-clause-genuine c = reports_are_genuine c.event_numbers.ensures
+
+pub returns-clause-found : goal.returns-clause-found
+returns-clause-found c = findings_are_single

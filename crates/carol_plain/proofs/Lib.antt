@@ -1,5 +1,0 @@
-pub mod Bools
-pub mod AdderLaws
-pub mod PlainLaws
-pub mod StartLaws
-pub mod StandsLaws

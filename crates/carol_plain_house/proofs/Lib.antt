@@ -1,6 +1,0 @@
-pub mod Kept
-pub mod Lists
-pub mod Places
-pub mod Readers
-pub mod Scripts
-pub mod Steps

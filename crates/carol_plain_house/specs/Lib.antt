@@ -1,4 +1,0 @@
-pub mod House
-pub mod Moves
-pub mod Places
-pub mod Tables
