@@ -1,5 +1,6 @@
 use super::Status;
 use super::tests::{BANK, FULL, FULL_REPORT, LAST, PLAIN, SESSIONS, call, head};
+use std::alloc::Global;
 use std::test::Fail;
 
 const WITHDRAWN_TWICE_AT_0: &[u8] = b"session at 0 {
@@ -296,16 +297,43 @@ end 2
     ),
 ];
 
+// An input: a program, a scene with these numbers of replicas and tries and what stands behind its
+// head, and the end.
+fn input(
+    alloc: Global,
+    program: &[u8],
+    (replicas, tries): (u32, u32),
+    sessions: &[u8],
+    script: &[u8],
+) -> Result<Vec<u8>, Fail> {
+    let scene = head(alloc, replicas, tries)?;
+    let mut whole = Vec::from_slice(alloc, program)?;
+    whole.extend_from_slice(scene.as_bytes())?;
+    whole.extend_from_slice(sessions)?;
+    whole.extend_from_slice(b"end script ")?;
+    whole.extend_from_slice(script)?;
+    whole.extend_from_slice(LAST)?;
+    Ok(whole)
+}
+
 #[test]
-fn reports_histories(rt: HostRuntime) -> Result<(), Fail> {
-    for rows in [GRANTED.as_slice(), UNGUARDED.as_slice()] {
-        for (program, (replicas, tries), sessions, script, report) in rows {
-            let scene = head(rt.alloc(), *replicas, *tries)?;
-            let parts = [*program, scene.as_bytes(), *sessions, b"end script ", *script, LAST];
-            let answer = call(&rt, b"step", &parts, &[], 4096, &[])?;
-            assert_eq!(rt; answer.status, Status::Ok);
-            assert_eq!(rt; answer.sink.taken(), *report);
-        }
+fn reports_histories_with_grants(rt: HostRuntime) -> Result<(), Fail> {
+    for (program, numbers, sessions, script, report) in &GRANTED {
+        let whole = input(rt.alloc(), program, *numbers, sessions, script)?;
+        let answer = call(&rt, b"step", &[whole.as_slice()], &[], 4096, &[])?;
+        assert_eq!(rt; answer.status, Status::Ok);
+        assert_eq!(rt; answer.sink.taken(), *report);
+    }
+    Ok(())
+}
+
+#[test]
+fn reports_histories_without_grants(rt: HostRuntime) -> Result<(), Fail> {
+    for (program, numbers, sessions, script, report) in &UNGUARDED {
+        let whole = input(rt.alloc(), program, *numbers, sessions, script)?;
+        let answer = call(&rt, b"step", &[whole.as_slice()], &[], 4096, &[])?;
+        assert_eq!(rt; answer.status, Status::Ok);
+        assert_eq!(rt; answer.sink.taken(), *report);
     }
     Ok(())
 }
@@ -329,10 +357,9 @@ fn tells_the_first_bad_statement(rt: HostRuntime) -> Result<(), Fail> {
             b"script 4 nothing new\n",
         ),
     ];
-    let scene = head(rt.alloc(), 2, 1)?;
     for (sessions, script, output) in &rows {
-        let parts = [BANK, scene.as_bytes(), *sessions, b"end script ", *script, LAST];
-        let answer = call(&rt, b"step", &parts, &[], 4096, &[])?;
+        let whole = input(rt.alloc(), BANK, (2, 1), sessions, script)?;
+        let answer = call(&rt, b"step", &[whole.as_slice()], &[], 4096, &[])?;
         assert_eq!(rt; answer.status, Status::Script);
         assert_eq!(rt; answer.sink.taken(), *output);
     }
@@ -353,27 +380,26 @@ fn asks_in_one_order(rt: HostRuntime) -> Result<(), Fail> {
     let rows: [(&[u8], &[u8], Status, &[u8]); 3] = [
         (
             b"program counter c = -1; invariant c >= d; end ",
-            b"session at 7 { withdraw(0); } end script go 7;",
+            b"session at 7 { withdraw(0); }",
             Status::Text,
             b"name 1 40 unknown\n",
         ),
         (
             BELOW,
-            b"session at 1 { withdraw(0); } end script go 7;",
+            b"session at 1 { withdraw(0); }",
             Status::Text,
             b"argument 0 0 0\n",
         ),
         (
             BELOW,
-            b"session at 1 { withdraw(1); } end script go 7;",
+            b"session at 1 { withdraw(1); }",
             Status::Refused,
             b"refused\nplace initial\nbal = -1\nend\n",
         ),
     ];
-    let scene = head(rt.alloc(), 2, 1)?;
-    for (program, rest, status, output) in &rows {
-        let parts = [*program, scene.as_bytes(), *rest, LAST];
-        let answer = call(&rt, b"step", &parts, &[], 4096, &[])?;
+    for (program, sessions, status, output) in &rows {
+        let whole = input(rt.alloc(), program, (2, 1), sessions, b"go 7;")?;
+        let answer = call(&rt, b"step", &[whole.as_slice()], &[], 4096, &[])?;
         assert_eq!(rt; answer.status, *status);
         assert_eq!(rt; answer.sink.taken(), *output);
     }
@@ -383,21 +409,16 @@ fn asks_in_one_order(rt: HostRuntime) -> Result<(), Fail> {
 // An input that is cut off is no text, wherever that is, but for the line feed at its end.
 #[test]
 fn reads_no_part_of_an_input(rt: HostRuntime) -> Result<(), Fail> {
-    let alloc = rt.alloc();
-    let scene = head(alloc, 2, 2)?;
-    let mut whole = Vec::new(alloc);
-    for part in [BANK, scene.as_bytes(), SESSIONS, b"end\nscript\n", FULL, b"\nend\n"] {
-        whole.extend_from_slice(part)?;
-    }
-    let last = whole.len() - 1;
-    for count in 0..last {
-        let (front, _) = whole.as_slice().split_at(count);
+    let whole = input(rt.alloc(), BANK, (2, 2), SESSIONS, FULL)?;
+    for count in 0..whole.len() {
+        let (front, behind) = whole.as_slice().split_at(count);
         let answer = call(&rt, b"step", &[front], &[], 4096, &[])?;
-        assert_eq!(rt; answer.status, Status::Text);
+        if behind.len() == 1 {
+            assert_eq!(rt; answer.status, Status::Ok);
+            assert_eq!(rt; answer.sink.taken(), FULL_REPORT);
+        } else {
+            assert_eq!(rt; answer.status, Status::Text);
+        }
     }
-    let (front, _) = whole.as_slice().split_at(last);
-    let answer = call(&rt, b"step", &[front], &[], 4096, &[])?;
-    assert_eq!(rt; answer.status, Status::Ok);
-    assert_eq!(rt; answer.sink.taken(), FULL_REPORT);
     Ok(())
 }
