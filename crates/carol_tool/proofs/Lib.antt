@@ -7,6 +7,7 @@ pub mod Staging
 pub mod Handed
 pub mod Stepped
 pub mod Audited
+pub mod Genuine
 pub mod Played
 pub mod Accorded
 pub mod Checked

@@ -69,7 +69,7 @@ loose_text command r a e f = elim (told_fault r a e) [
 ]
 
 -- none has the status of an accepted program
-not_accepted : (r : Refused) (a : Answer) → verdict_answer r ≡ Some a → IsOfAccepted a.0 → ⊥
+pub not_accepted : (r : Refused) (a : Answer) → verdict_answer r ≡ Some a → IsOfAccepted a.0 → ⊥
 not_accepted r a e h = elim (told_fault r a e) [
   | inl g ↦ subst IsOfAccepted g.0 h
   | inr g ↦ subst IsOfAccepted g h

@@ -9,4 +9,5 @@ pub mod Step
 pub mod Audit
 pub mod Says
 pub mod Answer
+pub mod AuditLaws
 pub mod Status

@@ -9,6 +9,7 @@ mod check;
 #[cfg(test)]
 mod check_tests;
 mod command;
+mod laws;
 mod reply;
 mod staged;
 mod status;
@@ -20,4 +21,5 @@ mod tests;
 mod told;
 
 pub use call::{carol, plain};
+pub use laws::audit_laws;
 pub use status::{Status, number};

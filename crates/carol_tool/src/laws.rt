@@ -1,0 +1,14 @@
+ghost use Rattle.carol_tool.specs.AuditLaws.{FoundAreReports, ReportsAreFound};
+
+use carol_audit_tail::tail_laws;
+use carol_transcript::transcript_laws;
+
+/// What holds of the answers of `audit`: transcripts that are reports of an accepted program are
+/// genuine, and no others. It does nothing, and is called for its clauses.
+pub fn audit_laws()
+    ensures found { ReportsAreFound }
+    ensures reports { FoundAreReports }
+{
+    tail_laws();
+    transcript_laws();
+}
