@@ -1,0 +1,4 @@
+pub mod Answers
+pub mod Tally
+pub mod Desks
+pub mod Serving
