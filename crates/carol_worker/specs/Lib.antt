@@ -2,3 +2,5 @@ pub mod Answers
 pub mod Tally
 pub mod Desks
 pub mod Serving
+pub mod Hands
+pub mod Rosters

@@ -110,6 +110,7 @@ impl Desk for OwnDesk {
 
 /// A desk at a house that is shared under a lock, which is held only while a step is made. Its counts
 /// stay at the last value of a `u64`.
+#[derive(Drop)]
 pub struct LockedDesk<'a, R: Wait> {
     rt: &'a R,
     house: &'a Mutex<House>,
