@@ -93,6 +93,11 @@ NamesWhatIs p scene (Deliver source target entry) past =
 NamesWhatIs p scene (Cut a b) past = (a < scene.replicas) × (b < scene.replicas)
 NamesWhatIs p scene (Join a b) past = (a < scene.replicas) × (b < scene.replicas)
 
+-- grants that are live are of sessions and guards that there are
+abbrev pub LiveAreNamed : Rules → Scene → List Event → Type 0
+LiveAreNamed p scene past = (session guard : ℕ) → is_live session guard past ≡ true →
+    IsSessionsGuard p scene session guard
+
 -- whose grants are live after each kind of event; the others change none
 pub record LiveAfter (past : List Event) : Type 0 where
   pub granted : (s g session guard : ℕ) →

@@ -1,5 +1,6 @@
 pub mod Limits
 pub mod Bodies
+pub mod Chains
 pub mod Rules
 pub mod Variables
 pub mod Called

@@ -1,9 +1,13 @@
-ghost use Rattle.std.specs.Prelude.{◌≡◌, ◌<◌, ◌≤◌, ◌*◌, length, slice_get, Some};
+ghost use Rattle.std.specs.Prelude.{◌≡◌, ◌<◌, ◌≤◌, ◌*◌, length, slice_get, Some, IfOk};
+ghost use Rattle.carol_store.specs.Effects.{IsEffect};
 ghost use Rattle.carol_program.specs.Accords.{Accords, IsTable, ways, ways_of, place_of, entry_of, HasWay};
+ghost use Rattle.carol_program.specs.Admitting.{admits, admits_all, is_yes};
 
+use crate::copies::copied_list;
 use carol_formula::Valuation;
-use carol_store::{CellKind, Shape};
+use carol_store::{CellKind, Direction, Effect, Shape};
 use sqlite_items::Items;
+use std::alloc::{AllocError, Global};
 use std::marker::Model;
 
 /// Whether a unit step of a cell keeps a guard true; where not, two stores at which it makes it false.
@@ -57,6 +61,17 @@ impl AccordTable {
         }
     }
 
+    /// An equal table.
+    pub fn copy(&self, alloc: Global) -> Result<AccordTable, AllocError>
+        ensures { IfOk result (λ same. same ≡ self.now) }
+    {
+        Ok(AccordTable {
+            shape: self.shape.copy(),
+            guards: self.guards,
+            entries: copied_list(alloc, &self.entries)?,
+        })
+    }
+
     /// The entry of the guard for the cell's step, up or down. All are in range, and down only for a counter.
     pub fn entry(&self, guard: u32, cell: u32, up: bool) -> &Entry
         requires guard { guard < self.now.guards }
@@ -66,6 +81,37 @@ impl AccordTable {
         let kinds = self.shape.kinds();
         let place = guard as usize * ways(kinds) + offset(kinds, cell, up);
         &self.entries.as_slice()[place]
+    }
+
+    /// Whether the guard's accord has all directions of the effect. The guard is in range, the table is
+    /// one of the shape, and the effect fits it.
+    pub fn admits(&self, shape: &Shape, guard: u32, effect: &Effect) -> bool
+        requires shape { shape.now ≡ self.now.kinds }
+        requires guard { guard < self.now.guards }
+        requires effect { IsEffect self.now.kinds effect.now }
+        ensures { result ≡ admits self.now guard effect.now }
+    {
+        let directions = effect.directions(shape);
+        let mut left = directions.as_slice();
+        while let Some((direction, more)) = left.split_first() {
+            if !self.has(guard, *direction) {
+                return false;
+            }
+            left = more;
+        }
+        true
+    }
+
+    // Whether the guard's entry for the direction is Yes.
+    fn has(&self, guard: u32, direction: Direction) -> bool
+        requires guard { guard < self.now.guards }
+        requires way { HasWay self.now.kinds direction.cell direction.up }
+        ensures { result ≡ is_yes (entry_of self.now guard direction.cell direction.up) }
+    {
+        match self.entry(guard, direction.cell, direction.up) {
+            Entry::Yes => true,
+            Entry::No(_) => false,
+        }
     }
 }
 

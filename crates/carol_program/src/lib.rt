@@ -5,6 +5,8 @@
 #![tactic(auto)]
 
 mod accords;
+mod chains;
+mod copies;
 mod lookups;
 mod names;
 mod places;

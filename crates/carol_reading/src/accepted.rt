@@ -1,7 +1,8 @@
-ghost use Rattle.std.specs.Prelude.{◌≡◌};
+ghost use Rattle.std.specs.Prelude.{◌≡◌, IfOk};
 ghost use Rattle.carol_reading.specs.Kept.{MayBeKept};
 
 use carol_program::{AccordTable, Program};
+use std::alloc::{AllocError, Global};
 use std::marker::Model;
 
 /// A program that is well formed and accepted, with its table of accords, which is right.
@@ -33,6 +34,16 @@ impl Accepted {
         ensures { result ≡ record { program = program; accords = accords } }
     {
         Accepted { program, accords }
+    }
+
+    /// An equal program with an equal table.
+    pub fn copy(&self, alloc: Global) -> Result<Accepted, AllocError>
+        ensures { IfOk result (λ same. same ≡ self.now) }
+    {
+        Ok(Accepted {
+            program: self.program.copy(alloc)?,
+            accords: self.accords.copy(alloc)?,
+        })
     }
 
     /// The program.

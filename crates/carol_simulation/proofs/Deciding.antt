@@ -1,25 +1,25 @@
 -- What a right table of accords decides, and searching for the first number that fails.
-use Rattle.std.proofs.Common.{◌≡◌, ℕ, zero, suc, ◌<◌, Bool, true, false, List, [], ◌∷◌, ℤ, refl, sym, subst, ◌∙◌, inl, inr, arith}
-use Rattle.std.specs.Prelude.{◌⊎◌, Option, Some, None, slice_get}
-use Rattle.std.specs.List.{AllByRecursion, cons_option}
-use Rattle.std.specs.Option.{option_and_then, option_map}
-use Rattle.std.proofs.lemmas.Bool.{cases_Bool, cases_lt}
-use Rattle.carol_store.specs.declared.shape.CellKind.{CellKind}
-use Rattle.carol_store.specs.declared.shape.CellKind.TheVariants.{Counter, Peak, Flag}
+use Rattle.std.proofs.Common.{◌≡◌, ℕ, zero, suc, ◌<◌, true, false, List, [], ◌∷◌, length, refl, sym, subst, ◌∙◌, inl, inr, arith}
+use Rattle.std.specs.Prelude.{◌⊎◌, ◌↔◌, Option, Some, None, slice_get}
+use Rattle.std.specs.List.{AllByRecursion}
+use Rattle.std.proofs.lemmas.Bool.{and_from, and_parts, cases_Bool, cases_lt}
+use Rattle.std.proofs.lemmas.Option.{slice_get_cases}
 use Rattle.carol_store.specs.declared.direction.Direction.{Direction}
 use Rattle.carol_store.specs.declared.effect.Atom.{Atom}
 use Rattle.carol_store.specs.Directions.{directions}
-use Rattle.carol_store.specs.Kinds.{way}
 use Rattle.carol_formula.specs.Claim.{Claim}
 use Rattle.carol_program.specs.declared.accords.Entry.{Entry}
 use Rattle.carol_program.specs.declared.accords.Entry.TheVariants.{Yes, No}
 use Rattle.carol_program.specs.declared.scenes.Scene.{Scene}
-use Rattle.carol_program.specs.Accords.{Accords, HasWay, entry_of}
+use Rattle.carol_program.specs.Accords.{Accords, entry_of}
+use Rattle.carol_program.specs.Admitting.{admits, admits_all, is_yes}
 use Rattle.carol_program.specs.Preserving.{IsRight, Preserves, Within}
 use Rattle.carol_program.specs.Rules.{Rules}
+use Rattle.carol_program.proofs.Directions.{AreWays, directions_are_ways}
 use Rattle.carol_event.specs.declared.event.Event.{Event}
 use Rattle.carol_history.specs.Journals.{effect_at, is_held}
 use Rattle.carol_history.specs.Legal.{Admits, AdmitsIn, IsSettled}
+use Rattle.carol_simulation.specs.Upheld.{TableDecides}
 
 -- it is so, or it is not
 abbrev pub Decided : Type 0 → Type 0
@@ -48,65 +48,60 @@ search_below P decide (suc n) = further (search_below P decide n) (decide n)
 
 -- ---- what guards admit
 
--- a way that an atom takes is one of its cell's
-way_there : (kinds : List CellKind) (cell : ℕ) (value : ℤ) (up : Bool) → option_and_then (λ kind. way kind value) (slice_get kinds cell) ≡ Some up → HasWay kinds cell up
-way_there [] cell value up e = absurd (nothing e)
-  where
-    nothing : None ≡ Some up → ⊥
-    nothing q = cc
-way_there (Counter ∷ kinds) zero value up e = tt
-way_there (Peak ∷ kinds) zero value true e = tt
-way_there (Peak ∷ kinds) zero value false e = absurd (only_up e)
-  where
-    only_up : Some true ≡ Some false → ⊥
-    only_up q = cc
-way_there (Flag ∷ kinds) zero value true e = tt
-way_there (Flag ∷ kinds) zero value false e = absurd (only_up e)
-  where
-    only_up : Some true ≡ Some false → ⊥
-    only_up q = cc
-way_there (kind ∷ kinds) (suc cell) value up e = way_there kinds cell value up e
+clash : false ≡ true → ⊥
+clash e = cc
 
-is_yes : (o : Option Entry) → Decided (o ≡ Some Yes)
-is_yes None = inr (λ e. nothing e)
+-- the table's test is that the entry is Yes
+yes_there : (o : Option Entry) → (is_yes o ≡ true) ↔ (o ≡ Some Yes)
+yes_there None = (λ e. absurd (clash e), λ e. absurd (nothing e))
   where
     nothing : None ≡ Some Yes → ⊥
     nothing q = cc
-is_yes (Some Yes) = inl refl
-is_yes (Some (No stores)) = inr (λ e. other e)
+yes_there (Some Yes) = (λ e. refl, λ e. refl)
+yes_there (Some (No stores)) = (λ e. absurd (clash e), λ e. absurd (other e))
   where
     other : Some (No stores) ≡ Some Yes → ⊥
     other q = cc
 
-both : {A B : Type 0} → Decided A → Decided B → Decided (A × B)
-both (inl a) (inl b) = inl (a, b)
-both (inl a) (inr b) = inr (λ h. b h.1)
-both (inr a) b = inr (λ h. a h.0)
-
 module _ (p : Rules) (table : Accords) (right : IsRight p.shape p.guards table) where
-  decide_direction : (guard : ℕ) (claim : Claim) (direction : Direction) → slice_get p.guards guard ≡ Some claim → HasWay p.shape direction.cell direction.up → Decided (Preserves p.shape claim direction)
-  decide_direction guard claim direction at there = told (is_yes (entry_of table guard direction.cell direction.up))
-    where
-      told : Decided (entry_of table guard direction.cell direction.up ≡ Some Yes) → Decided (Preserves p.shape claim direction)
-      told (inl e) = inl ((right.each guard claim direction at there).0 e)
-      told (inr n) = inr (λ k. n ((right.each guard claim direction at there).1 k))
+  -- directions whose entries are Yes are those that keep the guard
+  directions_decided : (guard : ℕ) (claim : Claim) → slice_get p.guards guard ≡ Some claim → (ds : List Direction) → AreWays p.shape ds → (admits_all table guard ds ≡ true) ↔ AllByRecursion (Preserves p.shape claim) ds
+  directions_decided guard claim at [] ways = (λ e. tt, λ all. refl)
+  directions_decided guard claim at (d ∷ ds) ways =
+      let rest = directions_decided guard claim at ds ways.1
+      in let here = right.each guard claim d at ways.0
+      in let told = yes_there (entry_of table guard d.cell d.up)
+      in (
+        λ e. let parts = and_parts (is_yes (entry_of table guard d.cell d.up)) (admits_all table guard ds) e in (here.0 (told.0 parts.0), rest.0 parts.1),
+        λ all. and_from (is_yes (entry_of table guard d.cell d.up)) (admits_all table guard ds) (told.1 (here.1 all.0)) (rest.1 all.1),
+      )
 
-  decide_directions : (guard : ℕ) (claim : Claim) → slice_get p.guards guard ≡ Some claim → (atoms : List Atom) → Decided (AllByRecursion (Preserves p.shape claim) (directions p.shape atoms))
-  decide_directions guard claim at [] = inl tt
-  decide_directions guard claim at (atom ∷ atoms) =
-      with_way (option_and_then (λ kind. way kind atom.value) (slice_get p.shape atom.cell)) refl (decide_directions guard claim at atoms)
+  effect_decided : (guard : ℕ) (claim : Claim) → slice_get p.guards guard ≡ Some claim → (effect : List Atom) → (admits table guard effect ≡ true) ↔ Within p.shape claim effect
+  effect_decided guard claim at effect =
+      let all = directions_decided guard claim at (directions p.shape effect) (directions_are_ways p.shape effect)
+      in let same : admits table guard effect ≡ admits_all table guard (directions p.shape effect) = rw right.same_kinds
+      in (λ e. record { each = all.0 (sym same ∙ e) }, λ w. same ∙ all.1 w.each)
+
+  pub guard_decided : (guard : ℕ) (effect : List Atom) → guard < length p.guards → (admits table guard effect ≡ true) ↔ Admits p guard effect
+  guard_decided guard effect named = decided_in (slice_get p.guards guard) refl
     where
-      with_way : (o : Option Bool) → option_and_then (λ kind. way kind atom.value) (slice_get p.shape atom.cell) ≡ o → Decided (AllByRecursion (Preserves p.shape claim) (directions p.shape atoms)) → Decided (AllByRecursion (Preserves p.shape claim) (cons_option (option_map (λ up. record { cell = atom.cell; up = up }) o) (directions p.shape atoms)))
-      with_way None e rest = rest
-      with_way (Some up) e rest = both (decide_direction guard claim (record { cell = atom.cell; up = up }) at (way_there p.shape atom.cell atom.value up e)) rest
+      there : slice_get p.guards guard ≡ None → ⊥
+      there e = elim (slice_get_cases p.guards guard).1 [
+        | inl inside ↦ cc
+        | inr past ↦ omega (arith, past.0)
+      ]
+
+      decided_in : (o : Option Claim) → slice_get p.guards guard ≡ o → (admits table guard effect ≡ true) ↔ AdmitsIn p.shape o effect
+      decided_in None e = absurd (there e)
+      decided_in (Some claim) e = effect_decided guard claim e effect
 
   decide_in : (guard : ℕ) (effect : List Atom) (o : Option Claim) → slice_get p.guards guard ≡ o → Decided (AdmitsIn p.shape o effect)
   decide_in guard effect None e = inr (λ h. h)
-  decide_in guard effect (Some claim) e = told (decide_directions guard claim e effect)
+  decide_in guard effect (Some claim) e = told (cases_Bool (admits table guard effect))
     where
-      told : Decided (AllByRecursion (Preserves p.shape claim) (directions p.shape effect)) → Decided (Within p.shape claim effect)
-      told (inl h) = inl (record { each = h })
-      told (inr n) = inr (λ w. n w.each)
+      told : (admits table guard effect ≡ true) ⊎ (admits table guard effect ≡ false) → Decided (Within p.shape claim effect)
+      told (inl t) = inl ((effect_decided guard claim e effect).0 t)
+      told (inr f) = inr (λ w. clash (sym f ∙ (effect_decided guard claim e effect).1 w))
 
   pub decide_admits : (guard : ℕ) (effect : List Atom) → Decided (Admits p guard effect)
   decide_admits guard effect = decide_in guard effect (slice_get p.guards guard) refl
@@ -114,14 +109,14 @@ module _ (p : Rules) (table : Accords) (right : IsRight p.shape p.guards table) 
   pub decide_settled : (scene : Scene) (replica guard entry : ℕ) (past : List Event) → Decided (IsSettled p scene replica guard entry past)
   decide_settled scene replica guard entry past = told (cases_Bool (is_held scene.sessions replica entry past)) (decide_admits guard (effect_at entry past))
     where
-      clash : true ≡ false → ⊥
-      clash e = cc
-
       told : (is_held scene.sessions replica entry past ≡ true) ⊎ (is_held scene.sessions replica entry past ≡ false) → Decided (Admits p guard (effect_at entry past)) → Decided (IsSettled p scene replica guard entry past)
       told (inl held) d = inl (inl held)
       told (inr lacking) (inl within) = inl (inr within)
       told (inr lacking) (inr outside) = inr (λ h. neither h)
         where
           neither : IsSettled p scene replica guard entry past → ⊥
-          neither (inl held) = clash (sym held ∙ lacking)
+          neither (inl held) = clash (sym lacking ∙ held)
           neither (inr within) = outside within
+
+pub table_decides : TableDecides
+table_decides p table guard effect right named = guard_decided p table right guard effect named

@@ -1,5 +1,6 @@
 -- The induction over a history, and what follows from what it keeps.
-use Rattle.std.proofs.Common.{ℕ, ◌≤◌, true, List, [], ◌∷◌, ◌++◌, length, refl, sym, subst, length-append, arith}
+use Rattle.std.proofs.Common.{◌≡◌, ℕ, ◌≤◌, true, List, [], ◌∷◌, ◌++◌, length, refl, sym, subst, ◌∙◌, length-append, arith}
+use Rattle.std.proofs.lemmas.Option.{same_Some}
 use Rattle.carol_store.specs.declared.effect.Atom.{Atom}
 use Rattle.carol_store.specs.Laws.{EffectsCommute, StepsReach}
 use Rattle.carol_store.specs.Stores.{apply_all}
@@ -7,6 +8,7 @@ use Rattle.carol_store.proofs.Chosen.{chosen_from-all}
 use Rattle.carol_program.specs.Rules.{Rules}
 use Rattle.carol_program.specs.Variables.{number_of_args}
 use Rattle.carol_program.specs.declared.scenes.Scene.{Scene}
+use Rattle.carol_reading.specs.Good.{Meet}
 use Rattle.carol_reading.specs.Marks.{Returned}
 use Rattle.carol_event.specs.declared.event.Event.{Event}
 use Rattle.carol_event.specs.declared.event.Event.TheVariants.{Grant, Query, Issue, Release, Return, Refuse, Deliver, Cut, Join}
@@ -15,9 +17,10 @@ use Rattle.carol_history.specs.Journals.{journal, is_held, global}
 use Rattle.carol_history.specs.Laws.{FewStayLow, IsLow, OrdersAgree, ReplicasAgree, StaysLow}
 use Rattle.carol_history.specs.Runs.{Run}
 use Rattle.carol_history.specs.Sequential.{Sequential}
-use Rattle.carol_simulation.specs.Upheld.{AllAnswer, GoesOn, MayRun, MeetsNoFault, RunsUphold, Upheld}
+use Rattle.carol_simulation.specs.Upheld.{AllAnswer, AttemptsAreRead, GoesOn, HasReading, MayRun, MeetsNoFault, RunsUphold, Upheld}
 use Rattle.carol_simulation.proofs.Marks.{attempt_not_returned, follows}
-use Rattle.carol_simulation.proofs.Steps.{Kept, is_good, is_reading, kept_cut, kept_deliver, kept_grant, kept_issue, kept_join, kept_query, kept_refuse, kept_release, kept_return, kept_start}
+use Rattle.carol_simulation.proofs.Sessions.{called}
+use Rattle.carol_simulation.proofs.Steps.{Kept, is_good, is_reading, is_sound, kept_cut, kept_deliver, kept_grant, kept_issue, kept_join, kept_query, kept_refuse, kept_release, kept_return, kept_start}
 
 -- what holds of all stores, effects and histories
 pub record AreLaws : Type 0 where
@@ -39,6 +42,26 @@ module _ (laws : AreLaws) (p : Rules) (scene : Scene) (may : MayRun p scene) whe
   kept (Deliver source target entry ∷ past) run = kept_deliver p scene may source target entry past (kept past run.1)
   kept (Cut a b ∷ past) run = kept_cut p scene may a b past (kept past run.1)
   kept (Join a b ∷ past) run = kept_join p scene may a b past (kept past run.1)
+
+  -- a command under way reads its attempt, with the stores of its rounds and the global store
+  pub has_reading : (past : List Event) → Run p scene past → (session : ℕ) (way : UnderWay scene session past) → HasReading p way.command session past
+  has_reading past run session way =
+      let k = kept past run
+      in let s = k.each session
+      in let r = s.reading way.plan way.command way.planned way.present
+      in let c = called p scene may.valid session _ way.plan way.command way.planned way.present
+      in let same : c.op ≡ r.op = same_Some c.op r.op (sym c.found ∙ r.found)
+      in record {
+        op = r.op;
+        found = r.found;
+        ended = s.ready.ended;
+        reading = record {
+          meet = subst (λ o. Meet o way.command.args) same c.meet;
+          reads = r.reads;
+          proper = s.ready.proper (global p past) (is_sound p scene may past k) s.stand;
+        };
+        goes_on = attempt_not_returned (acts session past);
+      }
 
   sequential : (past : List Event) → Run p scene past → Sequential p scene past
   sequential [] run = tt
@@ -104,3 +127,6 @@ run_before p scene (event ∷ later) past run = run_before p scene later past ru
 pub runs_uphold : AreLaws → RunsUphold
 runs_uphold laws p scene later past may run few =
     upheld laws p scene may past (run_before p scene later past run) (omega (arith, length-append later past))
+
+pub attempts_are_read : AreLaws → AttemptsAreRead
+attempts_are_read laws p scene past may run session way = has_reading laws p scene may past run session way

@@ -1,28 +1,32 @@
 -- What an accepted program upholds in every history that it can make.
-use Rattle.std.specs.Prelude.{◌≡◌, ◌≤◌, ◌<◌, ℕ, true, List, [], ◌∷◌, ◌++◌, length, ℤ, Some, slice_get}
+use Rattle.std.specs.Prelude.{◌≡◌, ◌↔◌, ◌≤◌, ◌<◌, ℕ, true, List, [], ◌∷◌, ◌++◌, length, ℤ, Some, slice_get}
 use Rattle.std.specs.List.{AllByRecursion}
+use Rattle.carol_store.specs.declared.effect.Atom.{Atom}
 use Rattle.carol_store.specs.Effects.{IsEffect}
+use Rattle.carol_store.specs.Kinds.{CellValue}
 use Rattle.carol_formula.specs.Claim.{truth}
 use Rattle.carol_formula.specs.Value.{set_at}
 use Rattle.carol_program.specs.Accords.{Accords}
+use Rattle.carol_program.specs.Admitting.{admits}
 use Rattle.carol_program.specs.Preserving.{IsRight}
-use Rattle.carol_program.specs.Rules.{Rules}
+use Rattle.carol_program.specs.Rules.{Rules, OpRules}
 use Rattle.carol_program.specs.Scenes.{IsValidScene}
 use Rattle.carol_program.specs.Variables.{number_of_args, result_variable}
 use Rattle.carol_program.specs.WellFormed.{AreRules}
+use Rattle.carol_program.specs.declared.scenes.Command.{Command}
 use Rattle.carol_program.specs.declared.scenes.Scene.{Scene}
 use Rattle.carol_program.specs.declared.scenes.SessionPlan.{SessionPlan}
-use Rattle.carol_reading.specs.Good.{IsAccepted}
-use Rattle.carol_reading.specs.Marks.{Mark, Returned}
+use Rattle.carol_reading.specs.Good.{IsAccepted, IsReading}
+use Rattle.carol_reading.specs.Marks.{Mark, Returned, HasNotReturned}
 use Rattle.carol_reading.specs.Rounds.{MeetsInvariant}
 use Rattle.carol_event.specs.declared.event.Event.{Event}
 use Rattle.carol_event.specs.declared.event.Event.TheVariants.{Return}
 use Rattle.carol_history.specs.declared.history.TheConstants.{MOST_EVENTS}
-use Rattle.carol_history.specs.Acts.{UnderWay, Next, is_live}
+use Rattle.carol_history.specs.Acts.{UnderWay, Next, acts, attempt, is_live, marks}
 use Rattle.carol_history.specs.Forced.{Forced}
 use Rattle.carol_history.specs.Journals.{journal, local, global}
 use Rattle.carol_history.specs.Laws.{IsLow, ReplicasAgree, StaysLow}
-use Rattle.carol_history.specs.Legal.{IsSettled}
+use Rattle.carol_history.specs.Legal.{Admits, IsSettled}
 use Rattle.carol_history.specs.Runs.{Run}
 use Rattle.carol_history.specs.Sequential.{Sequential, StandIn}
 
@@ -93,3 +97,26 @@ abbrev pub NobodyIsStuck : Type 0
 NobodyIsStuck = (p : Rules) (scene : Scene) (table : Accords) (past : List Event) →
     MayRun p scene → IsRight p.shape p.guards table → Run p scene past →
     (session : ℕ) → UnderWay scene session past → HasForced p scene session past
+
+-- a right table admits exactly the effects that are within the guard
+abbrev pub TableDecides : Type 0
+TableDecides = (p : Rules) (table : Accords) (guard : ℕ) (effect : List Atom) →
+    IsRight p.shape p.guards table → guard < length p.guards →
+    (admits table guard effect ≡ true) ↔ Admits p guard effect
+
+-- the command's operation reads what the session's attempt left, which is no return, in rounds as
+-- they may be, of which the open one has the global store
+pub record HasReading
+    (p : Rules) (command : Command) (session : ℕ) (past : List Event) : Type 0 where
+  pub op : OpRules
+  pub found : slice_get p.ops command.op ≡ Some op
+  pub ended : List (List CellValue)
+  pub reading :
+      IsReading p op command.args (marks (attempt (acts session past))) ended (global p past)
+  pub goes_on : HasNotReturned (marks (attempt (acts session past)))
+
+-- so it is with each command under way
+abbrev pub AttemptsAreRead : Type 0
+AttemptsAreRead = (p : Rules) (scene : Scene) (past : List Event) →
+    MayRun p scene → Run p scene past →
+    (session : ℕ) (way : UnderWay scene session past) → HasReading p way.command session past

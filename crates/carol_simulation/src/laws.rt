@@ -1,4 +1,4 @@
-ghost use Rattle.carol_simulation.specs.Upheld.{NobodyIsStuck, RunsUphold};
+ghost use Rattle.carol_simulation.specs.Upheld.{AttemptsAreRead, NobodyIsStuck, RunsUphold, TableDecides};
 
 use carol_history::history_laws;
 use carol_store::store_laws;
@@ -11,6 +11,10 @@ pub fn simulation()
     ensures uphold { RunsUphold }
     // And a session with a command under way always has an event to go on with.
     ensures going { NobodyIsStuck }
+    // Its operation reads what the attempt left, as far as it has come, with rounds as they may be.
+    ensures walks { AttemptsAreRead }
+    // And a right table of accords decides what guards admit.
+    ensures decided { TableDecides }
 {
     store_laws();
     history_laws();

@@ -1,7 +1,7 @@
 use Rattle.carol_history.proofs.Holdings.{held_within}
 use Rattle.carol_history.proofs.Orders.{orders_agree, replicas_agree}
 use Rattle.carol_history.proofs.Low.{few_stay_low}
-use Rattle.carol_history.proofs.Named.{names_what_is}
+use Rattle.carol_history.proofs.Named.{live_named, names_what_is}
 use Rattle.carol_history.proofs.Goings.{done_is_none_under_way, forced_is_legal, global_grows, live_after, place_is_behind}
 use Rattle.carol_history.proofs.Scripted.{script_is_single, script_runs}
 use Rattle.carol_history.proofs.Single.{forced_is_single}
@@ -21,6 +21,9 @@ returns-clause-low c = few_stay_low c.store_laws.ensures.little
 
 pub returns-clause-named : goal.returns-clause-named
 returns-clause-named c = names_what_is
+
+pub returns-clause-live_named : goal.returns-clause-live_named
+returns-clause-live_named c = live_named
 
 pub returns-clause-live : goal.returns-clause-live
 returns-clause-live c = live_after

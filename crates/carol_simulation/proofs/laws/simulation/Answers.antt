@@ -1,5 +1,6 @@
+use Rattle.carol_simulation.proofs.Deciding.{table_decides}
 use Rattle.carol_simulation.proofs.Going.{nobody_is_stuck}
-use Rattle.carol_simulation.proofs.Whole.{AreLaws, runs_uphold}
+use Rattle.carol_simulation.proofs.Whole.{AreLaws, attempts_are_read, runs_uphold}
 use Rattle.carol_simulation.proofs.laws.simulation.Goals as goal
 
 the_laws : goal.After-history_laws → AreLaws
@@ -16,3 +17,9 @@ returns-clause-uphold c = runs_uphold (the_laws c)
 
 pub returns-clause-going : goal.returns-clause-going
 returns-clause-going c = nobody_is_stuck (the_laws c)
+
+pub returns-clause-walks : goal.returns-clause-walks
+returns-clause-walks c = attempts_are_read (the_laws c)
+
+pub returns-clause-decided : goal.returns-clause-decided
+returns-clause-decided c = table_decides
