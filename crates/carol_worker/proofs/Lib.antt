@@ -1,2 +1,5 @@
 mod Stepping
 mod Dealing
+mod Going
+mod Entering
+mod Crossing

@@ -4,3 +4,4 @@ pub mod Desks
 pub mod Serving
 pub mod Hands
 pub mod Rosters
+pub mod Running

@@ -3,13 +3,18 @@
 #![tactic(auto)]
 
 mod desk;
+mod finish;
 mod roster;
 mod rule;
+mod running;
+mod second;
 mod serving;
 mod tally;
+mod threads;
 
 pub use desk::{Desk, LockedDesk, OwnDesk};
 pub use roster::{Roster, Taker, TakerList};
 pub use rule::Hand;
+pub use running::run_scene;
 pub use serving::{Served, serve};
 pub use tally::{Answer, Last};
