@@ -1,6 +1,6 @@
 -- How events are entered into a house in order.
-use Rattle.std.proofs.Common.{◌≡◌, ◌+◌, ◌<◌, ◌≤◌, ℕ, false, List, [], ◌∷◌, ◌++◌, length, length-append, reverse, append_assoc, append-nil, refl, sym, ap, ◌∙◌, subst, inl, inr, arith}
-use Rattle.std.proofs.lemmas.List.{reverse-append, reverse-reverse}
+use Rattle.std.proofs.Common.{◌≡◌, ◌+◌, ◌<◌, ◌≤◌, ℕ, false, List, [], ◌∷◌, ◌++◌, length, reverse, Result, Ok, Err, OnOk, append_assoc, refl, sym, ap, ◌∙◌, subst, inl, inr, arith}
+use Rattle.std.proofs.lemmas.List.{reverse-reverse}
 use Rattle.carol_program.specs.Rules.{Rules, rules_in}
 use Rattle.carol_program.specs.declared.scenes.Scene.{Scene}
 use Rattle.carol_reading.specs.Kept.{Kept}
@@ -8,12 +8,12 @@ use Rattle.carol_event.specs.declared.event.Event.{Event}
 use Rattle.carol_history.specs.declared.history.TheConstants.{MOST_EVENTS}
 use Rattle.carol_history.specs.Legal.{Legal}
 use Rattle.carol_history.specs.Runs.{Run}
-use Rattle.carol_house.specs.House.{Enters, House, IsOverSame, rules_of}
+use Rattle.carol_house.specs.House.{Enters, House, IsHistory, IsOverSame, rules_of}
 use Rattle.carol_worker.specs.Running.{Continues, EnteredUpTo, HasNoLink, MayEnter, history_after, is_link}
 use Rattle.carol_worker.proofs.Going.{no_link_append}
 
 -- what holds over a house's program and scene holds over those of one that is over the same
-same_scene : (P : Rules → Scene → Type 0) (start house : House) → IsOverSame start house → P (rules_of house) house.scene → P (rules_of start) start.scene
+pub same_scene : (P : Rules → Scene → Type 0) (start house : House) → IsOverSame start house → P (rules_of house) house.scene → P (rules_of start) start.scene
 same_scene P start house over holds =
     subst (λ (k : Kept). P (rules_in k.program) start.scene) over.kept
     (subst (λ (s : Scene). P (rules_of house) s) over.scene holds)
@@ -59,6 +59,10 @@ continues_entered old new events over entered =
     let went = went_later (rules_of old) old.scene events old.history new.history entered
     in record { over = over; later = went.0; history = went.1; unlinked = went.2 }
 
+pub continues_if : {U E : Type 0} (entered : Result U E) (old new : House) (events : List Event) → OnOk entered (IsOverSame old new) → OnOk entered (EnteredUpTo (rules_of old) old.scene events old.history new.history) → OnOk entered (Continues old new)
+continues_if (Ok done) old new events over up_to = continues_entered old new events over up_to
+continues_if (Err error) old new events over up_to = tt
+
 -- ---- events that were there before
 
 run_before : (p : Rules) (scene : Scene) (events past : List Event) → Run p scene (history_after events past) → Run p scene past
@@ -94,3 +98,25 @@ is_legal_next start house event events left more is leads run =
 pub has_room_next : (start house : House) (event : Event) (events left more : List Event) → left ≡ event ∷ more → LeadsBack start events house left → length (history_after events start.history) ≤ MOST_EVENTS → length house.history < MOST_EVENTS
 has_room_next start house event events left more is leads few =
     omega (arith, length_after left house.history, ap (λ (l : List Event). length l) is, ap (λ (l : List Event). length l) leads.1)
+
+-- ---- a second house
+
+second_history : (house second : House) (events : List Event) → second.history ≡ [] → events ≡ reverse house.history → history_after events second.history ≡ house.history
+second_history house second events empty are =
+    ap (λ (past : List Event). history_after events past) empty
+    ∙ ap (λ (es : List Event). history_after es []) are
+    ∙ after_again house.history
+
+pub second_runs : (house second : House) (events : List Event) → IsOverSame house second → second.history ≡ [] → events ≡ reverse house.history → IsHistory house → Run (rules_of second) second.scene (history_after events second.history)
+second_runs house second events over empty are history =
+    subst (λ (past : List Event). Run (rules_of second) second.scene past)
+    (sym (second_history house second events empty are))
+    (other_scene (λ p s. Run p s house.history) house second over history.run)
+
+pub second_fits : (house second : House) (events : List Event) → second.history ≡ [] → events ≡ reverse house.history → IsHistory house → length (history_after events second.history) ≤ MOST_EVENTS
+second_fits house second events empty are history =
+    omega (arith, history.few, ap (λ (past : List Event). length past) (second_history house second events empty are))
+
+pub second_same : (house second last : House) (events : List Event) → second.history ≡ [] → events ≡ reverse house.history → last.history ≡ history_after events second.history → last.history ≡ house.history
+second_same house second last events empty are replayed =
+    replayed ∙ second_history house second events empty are

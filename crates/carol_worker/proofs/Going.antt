@@ -1,5 +1,5 @@
 -- How a house goes on, with no cut and no join.
-use Rattle.std.proofs.Common.{◌≡◌, ◌≤◌, ◌+◌, ℕ, Bool, true, false, true≢false, eqb, cond, Option, None, List, [], ◌∷◌, ◌++◌, length, append_assoc, refl, sym, ap, ◌∙◌, subst, inl, inr, arith}
+use Rattle.std.proofs.Common.{◌≡◌, ◌≤◌, ◌<◌, ◌+◌, ℕ, Bool, true, false, true≢false, eqb, cond, Option, None, List, [], ◌∷◌, ◌++◌, length, append_assoc, refl, sym, ap, ◌∙◌, subst, inl, inr, below_more, arith}
 use Rattle.std.specs.Prelude.{slice_get, Some}
 use Rattle.std.proofs.lemmas.Option.{slice_get_within, slice_get_cases}
 use Rattle.carol_program.specs.declared.scenes.Scene.{Scene}
@@ -10,10 +10,11 @@ use Rattle.carol_history.specs.declared.history.TheConstants.{MOST_EVENTS}
 use Rattle.carol_history.specs.Acts.{Act, Did, Granted, Doing, Place, Refused, UnderWay, acts, doing, place, with_act}
 use Rattle.carol_history.specs.Bounds.{HasNoCut, links}
 use Rattle.carol_history.specs.Forced.{Forced}
+use Rattle.carol_history.specs.Laws.{DoneIsNoneUnderWay}
 use Rattle.carol_house.specs.House.{Enters, House, IsOverSame, rules_of}
 use Rattle.carol_house.specs.Moves.{Advances, HasCommand}
 use Rattle.carol_house.specs.declared.moved.Moved.TheVariants as moved
-use Rattle.carol_worker.specs.Running.{Continues, HasNoLink, is_link}
+use Rattle.carol_worker.specs.Running.{Continues, HasNoLink, IsRun, is_link}
 
 pub same_over : (house : House) → IsOverSame house house
 same_over house = record { kept = refl; scene = refl }
@@ -149,3 +150,24 @@ no_cut_before (event ∷ later) past none uncut = cut_with event (later ++ past)
     cut_with (Return s value) past is uncut = uncut
     cut_with (Refuse s cause) past is uncut = uncut
     cut_with (Deliver source target entry) past is uncut = uncut
+
+-- ---- one session after another
+
+-- those before the session are done
+abbrev pub AreDoneBelow : House → House → ℕ → Type 0
+AreDoneBelow start house session =
+    Continues start house × ((s : ℕ) → s < session → HasCommand house s → ⊥)
+
+pub done_one_more : (start house next : House) (session : ℕ) → AreDoneBelow start house session → Continues house next → (HasCommand next session → ⊥) → AreDoneBelow start next (session + 1)
+done_one_more start house next session kept goes done = (
+  continues_more start house next kept.0 goes,
+  below_more (λ (s : ℕ). HasCommand next s → ⊥) session (λ s below. stays_done house next s goes (kept.1 s below)) done,
+)
+
+pub all_done : (start house : House) (sessions session : ℕ) → sessions ≡ length start.scene.sessions → sessions ≤ session → AreDoneBelow start house session → DoneIsNoneUnderWay house.scene house.history → IsRun house
+all_done start house sessions session count past kept law = inl (law.1 nobody)
+  where
+    nobody : (s : ℕ) → UnderWay house.scene s house.history → ⊥
+    nobody s way =
+        let within : s < length house.scene.sessions = slice_get_within house.scene.sessions s way.plan way.planned in
+        kept.1 s (omega (arith, ap (λ (c : Scene). length c.sessions) kept.0.over.scene)) way

@@ -3,3 +3,4 @@ mod Dealing
 mod Going
 mod Entering
 mod Crossing
+mod Bounding

@@ -1,4 +1,4 @@
-ghost use Rattle.std.specs.Prelude.{◌≡◌, ◌≤◌, ◌+◌, length, IfOk};
+ghost use Rattle.std.specs.Prelude.{◌≡◌, ◌≤◌, ◌+◌, length, IfOk, OnOk};
 ghost use Rattle.carol_history.specs.Bounds.{HasNoCut, HasNoneBehind, links, most_events};
 ghost use Rattle.carol_house.specs.House.{rules_of};
 ghost use Rattle.carol_worker.specs.Running.{Continues, IsRun};
@@ -39,6 +39,25 @@ fn run_second<R: Threads + Wait + Sync, G: Gate + Sync>(
     Ok(shared.into_inner())
 }
 
+// Enters what came to pass at the second house, if there is a session to be run.
+fn run_workers<R: Threads + Wait + Sync, G: Gate + Sync>(
+    rt: &R,
+    alloc: Global,
+    house: &mut House,
+    gate: &G,
+) -> Result<(), AllocError>
+    ensures { OnOk result (Continues house.old house.new) }
+{
+    if house.scene().sessions.is_empty() {
+        return Ok(());
+    }
+    let second = run_second(rt, alloc, house, gate)?;
+    let events = second.history();
+    let known = house.history().len().min(events.len());
+    let (_, later) = events.split_at(known);
+    enter(house, later)
+}
+
 /// Runs the scene of the house: its workers run the sessions, each by one of them, while others
 /// gossip, on a second house with the same history, and what came to pass there is entered into the
 /// house. What is open then is finished by the caller, also where a thread can't be started. The
@@ -48,7 +67,7 @@ fn run_second<R: Threads + Wait + Sync, G: Gate + Sync>(
 pub fn run_scene<R: Threads + Wait + Sync, G: Gate + Sync>(
     rt: &R,
     alloc: Global,
-    house: House,
+    mut house: House,
     gate: &G,
 ) -> Result<House, AllocError>
     ensures continues { IfOk result (Continues house) }
@@ -58,14 +77,7 @@ pub fn run_scene<R: Threads + Wait + Sync, G: Gate + Sync>(
     ensures reach { HasNoCut house.history → IfOk result (λ new. HasNoneBehind new.history) }
 {
     bound_laws();
-    let mut house = house;
-    if !house.scene().sessions.is_empty() {
-        let second = run_second(rt, alloc, &house, gate)?;
-        let events = second.history();
-        let known = house.history().len().min(events.len());
-        let (_, later) = events.split_at(known);
-        enter(&mut house, later)?;
-    }
+    run_workers(rt, alloc, &mut house, gate)?;
     let house = finish(house)?;
     let _run = house.history();
     Ok(house)

@@ -1,5 +1,5 @@
 //! A second house with the history of the first, and its way back into the first.
-ghost use Rattle.std.specs.Prelude.{◌≡◌, ◌≤◌, ◌<◌, ⊤, length, reverse, IfOk, OnOk, MatchBool, IsTrue};
+ghost use Rattle.std.specs.Prelude.{◌≡◌, ◌≤◌, ◌<◌, [], length, IfOk, OnOk, MatchBool};
 ghost use Rattle.carol_history.specs.Legal.{Legal};
 ghost use Rattle.carol_history.specs.Runs.{Run};
 ghost use Rattle.carol_house.specs.House.{Enters, IsOverSame, rules_of};
@@ -40,14 +40,22 @@ fn replay(house: &mut House, events: &[Event]) -> Result<(), AllocError>
     Ok(())
 }
 
+// A house over copies of what the first is over, with an empty history.
+fn empty_second(alloc: Global, house: &House) -> Result<House, AllocError>
+    ensures over { IfOk result (λ second. IsOverSame house.now second) }
+    ensures empty { IfOk result (λ second. second.history ≡ []) }
+{
+    let accepted = house.accepted().copy(alloc)?;
+    let scene = house.scene().copy(alloc)?;
+    House::new(alloc, accepted, scene)
+}
+
 /// A second house over copies, with the history of the first.
 pub(crate) fn second_of(alloc: Global, house: &House) -> Result<House, AllocError>
     ensures over { IfOk result (λ second. IsOverSame house.now second) }
     ensures history { IfOk result (λ second. second.history ≡ house.now.history) }
 {
-    let accepted = house.accepted().copy(alloc)?;
-    let scene = house.scene().copy(alloc)?;
-    let mut second = House::new(alloc, accepted, scene)?;
+    let mut second = empty_second(alloc, house)?;
     replay(&mut second, house.history())?;
     Ok(second)
 }
