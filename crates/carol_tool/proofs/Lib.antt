@@ -2,6 +2,9 @@ pub mod Meaning
 pub mod Words
 pub mod Outcomes
 pub mod Replies
+pub mod Refusals
+pub mod Staging
+pub mod Handed
 pub mod Stepped
 pub mod Accorded
 pub mod Checked

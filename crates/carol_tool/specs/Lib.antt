@@ -3,6 +3,8 @@ pub mod Texts
 pub mod Reply
 pub mod Told
 pub mod Check
+pub mod Staged
+pub mod Stages
 pub mod Step
 pub mod Says
 pub mod Answer

@@ -21,9 +21,8 @@ ReadsAll command.Step = Unit {0}
 -- of these statuses of the command the bytes fix one; where it tells that something stays undecided,
 -- it might have been decided too
 abbrev pub FixesStatus : Command → Status → Type 0
-FixesStatus command.Check status.Undecided = ⊥
-FixesStatus command.Check meant = Unit {0}
-FixesStatus command.Step meant = Unit {0}
+FixesStatus command status.Undecided = ⊥
+FixesStatus command meant = Unit {0}
 
 -- and the text, but for one that shows a witness, of which there may be others
 abbrev pub FixesText : Command → Status → Type 0

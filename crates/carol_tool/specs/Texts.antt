@@ -2,11 +2,11 @@
 -- `check` the accords and `step` a report, and with Refused and Undecided a verdict; with WriteFault a
 -- part of another text was written.
 use Rattle.std.specs.Prelude.{List, ℕ, ◌++◌, codes, decimal}
-use Rattle.carol_plain_history.specs.declared.script.ScriptCause.{ScriptCause}
-use Rattle.carol_plain_history.specs.declared.script.ScriptCause.TheVariants as cause
+use Rattle.carol_history.specs.declared.script.ScriptCause.{ScriptCause}
+use Rattle.carol_history.specs.declared.script.ScriptCause.TheVariants as cause
 use Rattle.carol_outer.specs.declared.whole.ReadError.{ReadError}
 use Rattle.carol_outer.specs.declared.whole.ReadError.TheVariants as read
-use Rattle.carol_plain_report.specs.Events.{line_feed}
+use Rattle.carol_report.specs.Report.{line_feed}
 use Rattle.carol_resolve_meaning.specs.declared.fault.NameKind.{NameKind}
 use Rattle.carol_resolve_meaning.specs.declared.fault.NameKind.TheVariants as kind
 use Rattle.carol_scenario.specs.declared.error.SceneError.{SceneError}
@@ -89,6 +89,7 @@ abbrev pub cause_name : ScriptCause → List ℕ
 cause_name cause.NoSuchSession = codes "no such session"
 cause_name cause.Finished = codes "finished"
 cause_name cause.NoSuchPair = codes "no such pair"
+cause_name cause.CutOff = codes "cut"
 cause_name cause.NothingNew = codes "nothing new"
 
 -- the texts of one line
@@ -100,7 +101,6 @@ line_text (line.PartMissing command) = codes "parts " ++ (command_word command +
 line_text (line.BadName row column bad) =
     codes "name " ++ (two row column ++ (codes " " ++ (kind_name bad ++ line_feed)))
 line_text (line.BadScene bad) = scene_text bad ++ line_feed
-line_text line.NotPlain = codes "plain form only" ++ line_feed
 line_text (line.BadStatement bad) =
     codes "script " ++ (decimal bad.number ++ (codes " " ++ (cause_name bad.cause ++ line_feed)))
 

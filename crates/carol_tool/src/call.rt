@@ -113,7 +113,7 @@ fn command_reply<R: Threads + Sync>(
 {
     match command {
         Command::Check => check(rt, alloc, bytes),
-        Command::Step => step(alloc, bytes),
+        Command::Step => step(rt, alloc, bytes),
     }
 }
 

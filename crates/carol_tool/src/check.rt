@@ -79,8 +79,8 @@ fn acceptance(alloc: Global, accepted: &Accepted) -> Result<Reply, AllocError>
     })
 }
 
-// Says why a program isn't accepted.
-fn refusal(alloc: Global, refused: &Refused) -> Result<Reply, AllocError>
+/// Says why a program isn't accepted.
+pub(crate) fn refusal(alloc: Global, refused: &Refused) -> Result<Reply, AllocError>
     requires { IsSome (verdict_answer refused.now) → HasRules refused.now }
     ensures { IfOk result (λ reply. verdict_answer refused.now ≡ Some (answer_of reply)) }
 {

@@ -7,6 +7,7 @@ mod check;
 mod check_tests;
 mod command;
 mod reply;
+mod staged;
 mod status;
 mod step;
 #[cfg(test)]

@@ -15,7 +15,7 @@ use super::command::Command;
 use super::status::Status;
 use carol_outer::ReadError;
 use carol_parse::TextLimit;
-use carol_plain_history::{BadLine, ScriptCause};
+use carol_history::{BadStatement, ScriptCause};
 use carol_resolve_meaning::NameKind;
 use carol_scenario::{SceneError, SceneLimit};
 use std::alloc::{AllocError, Global};
@@ -111,10 +111,8 @@ pub enum Line {
     },
     /// The scene is wrong.
     BadScene(SceneError),
-    /// The file isn't in the plain form.
-    NotPlain,
     /// A statement of the script gives no event.
-    BadStatement(BadLine),
+    BadStatement(BadStatement),
 }
 
 /// The text of what is wrong with a scene.
@@ -181,7 +179,6 @@ impl fmt::Display for Line {
                 let said = SceneText(bad);
                 writeln!(f, "{said}")
             }
-            Line::NotPlain => writeln!(f, "plain form only"),
             Line::BadStatement(bad) => {
                 let number = bad.number;
                 let cause = cause_name(bad.cause);
@@ -246,6 +243,7 @@ fn cause_name(cause: ScriptCause) -> &'static str
         ScriptCause::NoSuchSession => "no such session",
         ScriptCause::Finished => "finished",
         ScriptCause::NoSuchPair => "no such pair",
+        ScriptCause::CutOff => "cut",
         ScriptCause::NothingNew => "nothing new",
     }
 }

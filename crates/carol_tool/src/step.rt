@@ -1,125 +1,119 @@
-ghost use Rattle.std.specs.Prelude.{◌≡◌, ◌≤◌, [], length, map, IfOk, IfSome};
-ghost use Rattle.carol_store.specs.declared.shape.CellKind.TheVariants.{Counter};
-ghost use Rattle.carol_plain_history.specs.Scripts.{scripted};
-ghost use Rattle.carol_plain_history.specs.Setup.{IsSetup};
+ghost use Rattle.std.specs.Prelude.{◌≡◌, ◌≤◌, None, length, map, IfOk, IfSome};
 ghost use Rattle.carol_program.specs.Rules.{rules_in};
-ghost use Rattle.carol_program.specs.WellFormed.{IsWellFormed};
-ghost use Rattle.carol_resolve_meaning.specs.Programs.{names_of, rules_of};
+ghost use Rattle.carol_program.specs.Scenes.{IsValidScene};
 ghost use Rattle.carol_syntax.specs.Files.{file_tree, program_tree};
 ghost use Rattle.carol_syntax.specs.Shape.{IsProgram};
 ghost use Rattle.carol_syntax.specs.Size.{IsSizedProgram};
 ghost use Rattle.carol_syntax.specs.Limits.{most_text_bytes};
-ghost use Rattle.carol_plain.specs.Start.{setup_of};
 ghost use Rattle.carol_tool.specs.Answer.{IsReply};
-ghost use Rattle.carol_tool.specs.Reply.{RepliesBy, answer_of};
-ghost use Rattle.carol_tool.specs.Step.{FileSays, NameSays, PlainSays, SceneSays, script_answer};
+ghost use Rattle.carol_tool.specs.Reply.{answer_of};
+ghost use Rattle.carol_tool.specs.Staged.{StagedSays};
+ghost use Rattle.carol_tool.specs.Step.{FileSays, IsPlayed, statement_of};
 
 use super::command::Command;
 use super::reply::{Line, Reply, one_line};
+use super::staged::{Stage, staged};
 use super::status::Status;
-use super::told::{bad_name, bad_text};
+use super::told::bad_text;
+use carol_history::{MOST_EVENTS, Statement, StatementList, history_laws};
+use carol_house::House;
+use carol_house_script::{Played, run_script};
 use carol_parse::parse;
-use carol_plain::{PlainError, PlainInput, plain_input};
-use carol_plain_house::{MOST_EVENTS, PlainHouse, Played, run_script};
-use carol_plain_report::report;
-use carol_program::Program;
-use carol_resolve::resolve;
-use carol_scenario::{SceneError, scene};
-use carol_store::{CellKind, Shape, Store};
-use carol_syntax::{File, SceneDecl};
+use carol_program::Scene;
+use carol_reading::Accepted;
+use carol_report::report;
+use carol_syntax::{File, SceneDecl, ScriptLine};
 use std::alloc::{AllocError, Global};
+use std::thread::Threads;
 
 /// Reads a program, a scene and a script, and says what the script's history is.
-pub(crate) fn step(alloc: Global, bytes: &[u8]) -> Result<Reply, AllocError>
+pub(crate) fn step<R: Threads + Sync>(
+    rt: &R,
+    alloc: Global,
+    bytes: &[u8],
+) -> Result<Reply, AllocError>
     requires { length bytes.now ≤ most_text_bytes }
     ensures { IfOk result (λ reply. IsReply Command.Step bytes.now (answer_of reply)) }
 {
+    history_laws();
     match parse(alloc, bytes) {
-        Ok(file) => step_file(alloc, &file),
+        Ok(file) => step_file(rt, alloc, &file),
         Err(error) => bad_text(alloc, error),
     }
 }
 
 // Says what comes of a file.
-fn step_file(alloc: Global, file: &File) -> Result<Reply, AllocError>
+fn step_file<R: Threads + Sync>(rt: &R, alloc: Global, file: &File) -> Result<Reply, AllocError>
     requires shape { IsProgram (program_tree file.now.program) }
     requires size { IsSizedProgram (program_tree file.now.program) }
     requires script { IfSome file.now.script (λ lines. length lines ≤ MOST_EVENTS) }
-    ensures { RepliesBy (FileSays (file_tree file.now)) result }
+    ensures { IfOk result (λ reply. FileSays (file_tree file.now) (answer_of reply)) }
 {
     match (&file.scene, &file.script) {
-        (Some(scene), Some(_)) => step_names(alloc, file, scene),
+        (Some(scene), Some(script)) => step_parts(rt, alloc, file, scene, script.as_slice()),
         (Some(_), None) | (None, Some(_)) | (None, None) => {
             one_line(alloc, Line::PartMissing(Command::Step))
         }
     }
 }
 
-// Says what comes of a file with all its parts.
-fn step_names(alloc: Global, file: &File, scene: &SceneDecl) -> Result<Reply, AllocError>
-    requires shape { IsProgram (program_tree file.now.program) }
-    requires size { IsSizedProgram (program_tree file.now.program) }
-    requires script { IfSome file.now.script (λ lines. length lines ≤ MOST_EVENTS) }
-    ensures { RepliesBy (NameSays (file_tree file.now) scene.now) result }
-{
-    match resolve(alloc, file) {
-        Ok(program) => step_scene(alloc, file, scene, &program),
-        Err(error) => bad_name(alloc, error),
-    }
-}
-
-// Says what comes of a file whose program is right.
-fn step_scene(
+// Says what comes of a file with these parts.
+fn step_parts<R: Threads + Sync>(
+    rt: &R,
     alloc: Global,
     file: &File,
-    declaration: &SceneDecl,
-    program: &Program,
+    scene: &SceneDecl,
+    script: &[ScriptLine],
 ) -> Result<Reply, AllocError>
-    requires well_formed { IsWellFormed (rules_in program.now) program.now.names }
-    requires rules { rules_in program.now ≡ rules_of (program_tree file.now.program) }
-    requires names { program.now.names ≡ names_of (program_tree file.now.program) }
-    requires script { IfSome file.now.script (λ lines. length lines ≤ MOST_EVENTS) }
-    ensures { RepliesBy (SceneSays (file_tree file.now) declaration.now) result }
+    requires shape { IsProgram (program_tree file.now.program) }
+    requires size { IsSizedProgram (program_tree file.now.program) }
+    requires script { length script.now ≤ MOST_EVENTS }
+    ensures { IfOk result (λ reply. StagedSays (IsPlayed script.now)
+        (program_tree file.now.program) scene.now None (answer_of reply)) }
 {
-    match scene(alloc, declaration, program) {
-        Ok(_) => step_plain(alloc, file),
-        Err(SceneError::NoMemory) => Err(AllocError),
-        Err(bad) => one_line(alloc, Line::BadScene(bad)),
+    match staged(rt, alloc, file, scene, None)? {
+        Stage::Told(reply) => Ok(reply),
+        Stage::Ready(accepted, scene) => play(alloc, accepted, scene, script),
     }
 }
 
-// Says what comes of a file whose program and scene are right.
-fn step_plain(alloc: Global, file: &File) -> Result<Reply, AllocError>
-    requires script { IfSome file.now.script (λ lines. length lines ≤ MOST_EVENTS) }
-    ensures { RepliesBy (PlainSays (file_tree file.now)) result }
+// The statement that a line stands for.
+fn statement_of(line: ScriptLine) -> Statement
+    ensures { result ≡ statement_of line }
 {
-    match plain_input(alloc, file) {
-        Ok(input) => play(alloc, input),
-        Err(PlainError::NotPlain) => one_line(alloc, Line::NotPlain),
-        Err(PlainError::NoMemory) => Err(AllocError),
+    match line {
+        ScriptLine::Go(session) => Statement::Go(session),
+        ScriptLine::Gossip(source, target) => Statement::Gossip { source, target },
+        ScriptLine::Cut(a, b) => Statement::Cut { a, b },
+        ScriptLine::Join(a, b) => Statement::Join { a, b },
     }
 }
 
-// A counter for each of the values.
-fn counters(alloc: Global, starts: &[i64]) -> Result<Vec<CellKind>, AllocError>
-    ensures { IfOk result (λ kinds. kinds.items ≡ map (λ start. Counter) starts.now) }
+// The statements that the lines stand for.
+fn statements_of(alloc: Global, script: &[ScriptLine]) -> Result<StatementList, AllocError>
+    ensures { IfOk result (λ lines. lines ≡ map statement_of script.now) }
 {
-    starts.iter().map(|_| CellKind::Counter).collect(alloc)
+    let mut lines = StatementList::new(alloc);
+    for line in script {
+        lines.push(statement_of(*line))?;
+    }
+    Ok(lines)
 }
 
-// Runs the input's script, and reports its history or its first statement that gives no event.
-fn play(alloc: Global, input: PlainInput) -> Result<Reply, AllocError>
-    requires cells { length input.starts ≤ 16 }
-    requires lines { length input.script ≤ MOST_EVENTS }
-    requires start { IsSetup (setup_of input) }
-    ensures { let script = scripted (setup_of input) 1 input.script [] in
-        IfOk result (λ reply. script_answer (setup_of input) script ≡ answer_of reply) }
+// Runs the script, and reports its history or its first statement that gives no event.
+fn play(
+    alloc: Global,
+    accepted: Accepted,
+    scene: Scene,
+    script: &[ScriptLine],
+) -> Result<Reply, AllocError>
+    requires valid { IsValidScene (rules_in accepted.program) scene }
+    requires script { length script.now ≤ MOST_EVENTS }
+    ensures { IfOk result (λ reply. IsPlayed script.now accepted scene (answer_of reply)) }
 {
-    let kinds = counters(alloc, input.starts.as_slice())?;
-    let shape = Shape::new(alloc, &kinds);
-    let initial = Store::initial(alloc, &shape, input.starts.as_slice());
-    let house = PlainHouse::new(alloc, shape, initial, input.replicas, input.sessions)?;
-    let Played { house, bad } = run_script(house, &input.script)?;
+    let lines = statements_of(alloc, script)?;
+    let house = House::new(alloc, accepted, scene)?;
+    let Played { house, bad } = run_script(house, &lines)?;
     match bad {
         None => Ok(Reply {
             status: Status::Ok,
