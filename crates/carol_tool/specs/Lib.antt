@@ -6,6 +6,7 @@ pub mod Check
 pub mod Staged
 pub mod Stages
 pub mod Step
+pub mod Run
 pub mod Says
 pub mod Answer
 pub mod Status

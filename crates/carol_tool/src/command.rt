@@ -11,6 +11,8 @@ pub enum Command {
     Check,
     /// To carry out the script of a file.
     Step,
+    /// To run the scene of a file in threads.
+    Run,
 }
 
 impl fmt::Display for Command {
@@ -20,6 +22,7 @@ impl fmt::Display for Command {
         match self {
             Command::Check => write!(f, "check"),
             Command::Step => write!(f, "step"),
+            Command::Run => write!(f, "run"),
         }
     }
 }
@@ -43,6 +46,9 @@ fn command_named(word: &[u8]) -> Option<Command>
     }
     if word == b"step".as_slice() {
         return Some(Command::Step);
+    }
+    if word == b"run".as_slice() {
+        return Some(Command::Run);
     }
     None
 }

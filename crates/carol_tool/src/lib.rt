@@ -7,6 +7,9 @@ mod check;
 mod check_tests;
 mod command;
 mod reply;
+mod run;
+#[cfg(test)]
+mod run_tests;
 mod staged;
 mod status;
 mod step;
