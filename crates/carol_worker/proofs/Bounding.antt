@@ -1,11 +1,7 @@
 -- How long the history of a run scene is, and that nobody is refused behind an entry in it.
-use Rattle.std.proofs.Common.{◌≡◌, ◌≤◌, ◌+◌, ℕ, List, ◌++◌, length, sym, subst, ap, arith}
+use Rattle.std.proofs.Common.{◌≤◌, ◌+◌, length, sym, subst, ap, arith}
 use Rattle.carol_bound.specs.Laws.{NobodyIsBehind, RunsAreShort}
-use Rattle.carol_program.specs.Rules.{Rules, rules_in}
-use Rattle.carol_program.specs.declared.scenes.Scene.{Scene}
-use Rattle.carol_event.specs.declared.event.Event.{Event}
 use Rattle.carol_history.specs.Bounds.{HasNoCut, HasNoneBehind, links, most_events}
-use Rattle.carol_history.specs.Runs.{Run}
 use Rattle.carol_house.specs.House.{House, IsHistory, rules_of}
 use Rattle.carol_worker.specs.Running.{Continues}
 use Rattle.carol_worker.proofs.Entering.{same_scene}

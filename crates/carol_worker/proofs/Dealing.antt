@@ -1,7 +1,7 @@
 -- Each kind of step on the roster's queue keeps its rule.
-use Rattle.std.proofs.Common.{◌≡◌, ◌≢◌, ◌≤◌, ◌<◌, ◌+◌, ◌==◌, ℕ, zero, suc, true, List, [], ◌∷◌, ◌++◌, length, length-append, Option, None, Some, MatchOption, IfNone, nat_lt, count_by, if◌then◌else◌, set, refl, sym, ◌∙◌, true≢false, ap, subst, ⊎_elim, arith, rules}
+use Rattle.std.proofs.Common.{◌≡◌, ◌≢◌, ◌≤◌, ◌+◌, ◌==◌, ℕ, zero, suc, true, List, [], ◌∷◌, ◌++◌, length-append, Option, None, Some, MatchOption, IfNone, if◌then◌else◌, set, refl, sym, ◌∙◌, true≢false, ap, subst, ⊎_elim, arith}
 use Rattle.std.proofs.lemmas.Bool.Decides.{nat_tests}
-use Rattle.std.proofs.lemmas.List.Sums.{sum_by-cons, sum_by-append, sum_by_push}
+use Rattle.std.proofs.lemmas.List.Sums.{sum_by-cons, sum_by_push}
 use Rattle.std.specs.List.{sum_by}
 use mathlib.Core.Option.{some, some-injective, some-ne-none}
 use lib.ListN.{get_elem?}
@@ -9,7 +9,7 @@ use Rattle.crossbeam_queue.specs.Fifo.{Forks, Held, Learns, Pops, Pushes}
 use Rattle.crossbeam_queue.proofs.Lists.{at_set, at_snoc, set_again}
 use Rattle.carol_worker.specs.declared.rule.Hand.{Hand}
 use Rattle.carol_worker.specs.Rosters.{WasEmpty}
-use Rattle.carol_worker.specs.Hands.{Dealt, IsDealt, IsOnceEach, IsShort, Put, Took, maker, once_below, taker, times, times_taken, with_put, with_taken}
+use Rattle.carol_worker.specs.Hands.{Dealt, IsOnceEach, IsShort, Put, Took, maker, once_below, taker, times, times_taken, with_put, with_taken}
 
 -- a sum over all passes once one of them is another
 sum_set : (f : Hand → ℕ) (hands : List Hand) (pass : ℕ) (old new : Hand) → get_elem? hands pass ≡ some old → sum_by f (set hands pass new) + f old ≡ sum_by f hands + f new

@@ -1,5 +1,5 @@
 -- How events are entered into a house in order.
-use Rattle.std.proofs.Common.{◌≡◌, ◌+◌, ◌<◌, ◌≤◌, ℕ, false, List, [], ◌∷◌, ◌++◌, length, reverse, Result, Ok, Err, OnOk, append_assoc, refl, sym, ap, ◌∙◌, subst, inl, inr, arith}
+use Rattle.std.proofs.Common.{◌≡◌, ◌+◌, ◌<◌, ◌≤◌, List, [], ◌∷◌, ◌++◌, length, reverse, Result, Ok, Err, OnOk, append_assoc, refl, sym, ap, ◌∙◌, subst, inl, inr, arith}
 use Rattle.std.proofs.lemmas.List.{reverse-reverse}
 use Rattle.carol_program.specs.Rules.{Rules, rules_in}
 use Rattle.carol_program.specs.declared.scenes.Scene.{Scene}
@@ -9,7 +9,7 @@ use Rattle.carol_history.specs.declared.history.TheConstants.{MOST_EVENTS}
 use Rattle.carol_history.specs.Legal.{Legal}
 use Rattle.carol_history.specs.Runs.{Run}
 use Rattle.carol_house.specs.House.{Enters, House, IsHistory, IsOverSame, rules_of}
-use Rattle.carol_worker.specs.Running.{Continues, EnteredUpTo, HasNoLink, MayEnter, history_after, is_link}
+use Rattle.carol_worker.specs.Running.{Continues, EnteredUpTo, HasNoLink, MayEnter, history_after}
 use Rattle.carol_worker.proofs.Going.{no_link_append}
 
 -- what holds over a house's program and scene holds over those of one that is over the same

@@ -1,6 +1,6 @@
 -- How a house goes on, with no cut and no join.
 use Rattle.std.proofs.Common.{◌≡◌, ◌≤◌, ◌<◌, ◌+◌, ℕ, Bool, true, false, true≢false, eqb, cond, Option, None, List, [], ◌∷◌, ◌++◌, length, append_assoc, refl, sym, ap, ◌∙◌, subst, inl, inr, below_more, arith}
-use Rattle.std.specs.Prelude.{slice_get, Some}
+use Rattle.std.specs.Prelude.{Some}
 use Rattle.std.proofs.lemmas.Option.{slice_get_within, slice_get_cases}
 use Rattle.carol_program.specs.declared.scenes.Scene.{Scene}
 use Rattle.carol_reading.specs.Marks.{Asked, Issued, Released, Returned}
@@ -14,7 +14,7 @@ use Rattle.carol_history.specs.Laws.{DoneIsNoneUnderWay}
 use Rattle.carol_house.specs.House.{Enters, House, IsOverSame, rules_of}
 use Rattle.carol_house.specs.Moves.{Advances, HasCommand}
 use Rattle.carol_house.specs.declared.moved.Moved.TheVariants as moved
-use Rattle.carol_worker.specs.Running.{Continues, HasNoLink, IsRun, is_link}
+use Rattle.carol_worker.specs.Running.{Continues, HasNoLink, HasEnded, is_link}
 
 pub same_over : (house : House) → IsOverSame house house
 same_over house = record { kept = refl; scene = refl }
@@ -164,7 +164,7 @@ done_one_more start house next session kept goes done = (
   below_more (λ (s : ℕ). HasCommand next s → ⊥) session (λ s below. stays_done house next s goes (kept.1 s below)) done,
 )
 
-pub all_done : (start house : House) (sessions session : ℕ) → sessions ≡ length start.scene.sessions → sessions ≤ session → AreDoneBelow start house session → DoneIsNoneUnderWay house.scene house.history → IsRun house
+pub all_done : (start house : House) (sessions session : ℕ) → sessions ≡ length start.scene.sessions → sessions ≤ session → AreDoneBelow start house session → DoneIsNoneUnderWay house.scene house.history → HasEnded house
 all_done start house sessions session count past kept law = inl (law.1 nobody)
   where
     nobody : (s : ℕ) → UnderWay house.scene s house.history → ⊥

@@ -14,7 +14,8 @@ abbrev pub Moves : House → ℕ → Result Moved HouseError → House → Type 
 Moves old session (Ok moved) new = Advances old session moved new
 Moves old session (Err error) new = FailsToAdvance old session error new
 
--- the answer is the house's; or it has no such session, and the answer is that it is finished
+-- the answer is the house's; or the house has no such session, and the answer is that it is
+-- finished
 abbrev pub StepsIn : House → ℕ → Result Moved HouseError → House → Type 0
 StepsIn old session given new =
     ((session < length old.scene.sessions) × Moves old session given new)
@@ -25,7 +26,8 @@ abbrev pub Passes : House → ℕ → ℕ → Result Gossip HouseError → House
 Passes old source target (Ok passed) new = Gossips old source target passed new
 Passes old source target (Err error) new = FailsToGossip old source target error new
 
--- the answer is the house's; or it has no two such replicas, and the answer is that they are cut off
+-- the answer is the house's; or it has no two such replicas, and the answer is that they are cut
+-- off
 abbrev pub GossipsIn : House → ℕ → ℕ → Result Gossip HouseError → House → Type 0
 GossipsIn old source target given new =
     (MayLink old.scene source target × Passes old source target given new)

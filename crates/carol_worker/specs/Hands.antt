@@ -36,7 +36,7 @@ once_below count number = if nat_lt number count then 1 else 0
 
 -- the maker is the pass with this number, and put so many in
 pub record IsDealt (maker count : ℕ) (items : List ℕ) (hands : List Hand) : Type 0 where
-  -- no number stands twice in the queue and the lists, and none that isn't below the count stands there
+  -- no number stands twice in the queue and the lists together, and each is below the count
   pub once : (number : ℕ) →
       times number items + times_taken number hands ≤ once_below count number
   pub short : length items ≤ count

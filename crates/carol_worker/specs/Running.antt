@@ -53,5 +53,5 @@ IsThrough house session served.Done = HasCommand house session → ⊥
 IsThrough house session served.Full = IsFull house
 
 -- all commands are done, or the history is full
-abbrev pub IsRun : House → Type 0
-IsRun house = AreDone house.scene house.history ⊎ IsFull house
+abbrev pub HasEnded : House → Type 0
+HasEnded house = AreDone house.scene house.history ⊎ IsFull house

@@ -13,14 +13,14 @@ pub trait Desk {
     // found the history full, and the last step with one of these answers.
     ghost tally: { Self → Tally };
 
-    /// The session makes the one step that it can make. `Finished` is answered where there is no such
-    /// session.
+    /// The session makes the one step that it can make. `Finished` is answered also where there is
+    /// no such session.
     fn step(&mut self, session: u32) -> Result<Moved, HouseError>
         ensures counted { NoneFell (tally self.old) (tally self.new) }
         ensures stepped { Stepped (tally self.old) session result (tally self.new) };
 
     /// Delivers the lowest entry that the replica `from` holds and `to` lacks. `CutOff` is answered
-    /// where there are no two such replicas.
+    /// also where there are no two such replicas.
     fn gossip(&mut self, from: u32, to: u32) -> Result<Gossip, HouseError>
         ensures counted { NoneFell (tally self.old) (tally self.new) }
         ensures gossiped { Gossiped (tally self.old) result (tally self.new) };
@@ -108,8 +108,8 @@ impl Desk for OwnDesk {
     }
 }
 
-/// A desk at a house that is shared under a lock, which is held only while a step is made. Its counts
-/// stay at the last value of a `u64`.
+/// A desk at a house that is shared under a lock, which is held only while a step is made. Its
+/// counts stay at the last value of a `u64`.
 #[derive(Drop)]
 pub struct LockedDesk<'a, R: Wait> {
     rt: &'a R,

@@ -1,6 +1,6 @@
 //! What is open at the end, one session after another.
 ghost use Rattle.std.specs.Prelude.{◌≡◌, ◌<◌, length, IfOk};
-ghost use Rattle.carol_worker.specs.Running.{Continues, IsRun, IsThrough};
+ghost use Rattle.carol_worker.specs.Running.{Continues, HasEnded, IsThrough};
 
 use crate::serving::Served;
 use carol_history::history_laws;
@@ -28,7 +28,7 @@ fn finish_session(house: &mut House, session: u32) -> Result<Served, AllocError>
 /// Goes on until all commands are done or the history is full.
 pub(crate) fn finish(mut house: House) -> Result<House, AllocError>
     ensures continues { IfOk result (Continues house) }
-    ensures run { IfOk result IsRun }
+    ensures ended { IfOk result HasEnded }
 {
     history_laws();
     let sessions = house.scene().sessions.len() as u32;

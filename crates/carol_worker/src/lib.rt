@@ -14,7 +14,6 @@ mod threads;
 
 pub use desk::{Desk, LockedDesk, OwnDesk};
 pub use roster::{Roster, Taker, TakerList};
-pub use rule::Hand;
 pub use running::run_scene;
 pub use serving::{Served, serve};
 pub use tally::{Answer, Last};

@@ -8,8 +8,8 @@ use std::alloc::{AllocError, Global};
 use std::marker::Model;
 use std::sync::Wait;
 
-/// The sessions that wait for a worker, by number. Contracts see it as the queue that it is, and how
-/// many sessions were put in.
+/// The sessions that wait for a worker, by number. Contracts see it as the queue that it is, and
+/// how many sessions were put in.
 #[derive(Drop)]
 pub struct Roster {
     line: Line,
@@ -46,7 +46,7 @@ impl Model for Taker {
 /// Takers in the order in which they were made.
 pub type TakerList = Vec<Taker>;
 
-// Puts the maker's count in.
+// Puts the maker's count in, for which there is room.
 fn put<R: Wait>(rt: &R, line: &Line, pass: &mut HandPass, session: u32)
     requires pass { IsPassOf line.now pass.old }
     requires room { session < ruled_capacity line.now }
@@ -54,6 +54,7 @@ fn put<R: Wait>(rt: &R, line: &Line, pass: &mut HandPass, session: u32)
     ensures pass { IsPassOf line.now pass.new }
     ensures view { hand_of pass.new ≡ maker (session + 1) }
 {
+    // By the rule the queue is no longer than the count, so it isn't full.
     let _put = line.push_as::<Puts, R>(rt, pass, session);
 }
 

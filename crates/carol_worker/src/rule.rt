@@ -4,12 +4,14 @@ use crossbeam_queue::protocol::{Lesson, Outcome, Protocol, Split};
 use crossbeam_queue::{Pass, RuledArrayQueue};
 use std::collections::LinkedList;
 
-/// What a pass on the roster's queue knows: whether it makes the roster, how many numbers it then put
-/// in, and which it took, in order. No value of it is made.
-pub struct Hand {
-    pub makes: bool,
-    pub count: u32,
-    pub taken: LinkedList<u32>,
+/// What a pass on the roster's queue knows. No value of it is made.
+pub(crate) struct Hand {
+    /// Whether it puts the numbers in.
+    pub(crate) makes: bool,
+    /// How many it then put in.
+    pub(crate) count: u32,
+    /// Which it took, in order.
+    pub(crate) taken: LinkedList<u32>,
 }
 
 // The numbers from 0 are put in by one pass, and each goes to one pass at most.

@@ -1,7 +1,7 @@
 ghost use Rattle.std.specs.Prelude.{◌≡◌, ◌≤◌, ◌+◌, length, IfOk, OnOk};
 ghost use Rattle.carol_history.specs.Bounds.{HasNoCut, HasNoneBehind, links, most_events};
 ghost use Rattle.carol_house.specs.House.{rules_of};
-ghost use Rattle.carol_worker.specs.Running.{Continues, IsRun};
+ghost use Rattle.carol_worker.specs.Running.{Continues, HasEnded};
 
 use crate::finish::finish;
 use crate::roster::Roster;
@@ -60,10 +60,10 @@ fn run_workers<R: Threads + Wait + Sync, G: Gate + Sync>(
 
 /// Runs the scene of the house: its workers run the sessions, each by one of them, while others
 /// gossip, on a second house with the same history, and what came to pass there is entered into the
-/// house. What is open then is finished by the caller, also where a thread can't be started. The
-/// house goes on with no cut or join until all commands are done or the history is full. It has at
-/// most `most_events` events, and as many more as replicas were cut or joined before; where none were
-/// cut, nobody is refused behind an entry.
+/// house. What is open then is finished by the caller, also where a thread couldn't be started. The
+/// house goes on with no cut or join until all commands are done or the history is full. It then has
+/// at most `most_events` events, and as many more as replicas were cut or joined before; where none
+/// were cut, nobody is refused behind an entry.
 pub fn run_scene<R: Threads + Wait + Sync, G: Gate + Sync>(
     rt: &R,
     alloc: Global,
@@ -71,7 +71,7 @@ pub fn run_scene<R: Threads + Wait + Sync, G: Gate + Sync>(
     gate: &G,
 ) -> Result<House, AllocError>
     ensures continues { IfOk result (Continues house) }
-    ensures run { IfOk result IsRun }
+    ensures ended { IfOk result HasEnded }
     ensures short { IfOk result (λ new. length new.history
         ≤ most_events (rules_of house) house.scene + links house.history) }
     ensures reach { HasNoCut house.history → IfOk result (λ new. HasNoneBehind new.history) }

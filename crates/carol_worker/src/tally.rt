@@ -25,13 +25,13 @@ pub struct Last {
 
 /// What a desk keeps of the answers to its steps. The counts stay at the last value of a `u64`.
 #[derive(Clone, Copy, Debug, PartialEq, Eq)]
-pub struct Answered {
+pub(crate) struct Answered {
     /// How many steps found all commands of their session done.
-    pub finished: u64,
+    pub(crate) finished: u64,
     /// How many steps found the history full.
-    pub full: u64,
+    pub(crate) full: u64,
     /// The last step that was answered.
-    pub last: Option<Last>,
+    pub(crate) last: Option<Last>,
 }
 
 impl Answered {

@@ -1,6 +1,5 @@
 use Rattle.std.proofs.Common.{ap, length, ◌∙◌}
 use Rattle.carol_program.specs.declared.scenes.Scene.{Scene}
-use Rattle.carol_worker.specs.Running.{IsThrough}
 use Rattle.carol_worker.proofs.Going.{all_done, continues_more, done_one_more}
 use Rattle.carol_worker.proofs.finish.finish.Goals as goal
 
@@ -13,6 +12,6 @@ loop-session-preserved c =
     done_one_more _ _ _ _ c.loop-session.invariant c.in_ok-finish_session.ensures.continues
     (rw c.in-Done.is at c.in_ok-finish_session.ensures.through)
 
-pub returns-clause-run : goal.returns-clause-run
-returns-clause-run c =
+pub returns-clause-ended : goal.returns-clause-ended
+returns-clause-ended c =
     all_done _ _ c.len-sessions.result _ (c.len-sessions.ensures ∙ ap (λ (s : Scene). length s.sessions) c.scene.ensures.scene) c.loop-session-test.false c.loop-session.invariant (c.history_laws.ensures.done _ _)

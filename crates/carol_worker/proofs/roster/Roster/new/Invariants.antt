@@ -1,5 +1,5 @@
 use Rattle.std.proofs.Common.{◌≡◌, All, length}
-use Rattle.crossbeam_queue.specs.Passes.{IsPassOf, ruled_capacity, view as hand_of}
+use Rattle.crossbeam_queue.specs.Passes.{IsPassOf, view as hand_of}
 use Rattle.carol_worker.specs.Hands.{maker}
 use Rattle.carol_worker.specs.Rosters.{IsNewOf}
 use Rattle.carol_worker.proofs.roster.Roster.new.Given as goal
