@@ -22,7 +22,15 @@ use Rattle.carol_program.specs.contracts.program.Program as program
 use Rattle.carol_program.specs.contracts.scenes.Scene as scene
 use Rattle.carol_reading.specs.contracts.accepted.Accepted as accepted
 use Rattle.carol_event.proofs.event.Event.TheSendSync.{the_send as event_send}
+use Rattle.carol_machine.proofs.machine.Machine.TheSendSync.{the_send as machine_send}
+use Rattle.carol_grant.proofs.grants.Grants.TheSendSync.{the_send as grants_send}
+use Rattle.carol_holding.proofs.holding.Holding.TheSendSync.{the_send as holding_send}
+use Rattle.carol_replica.proofs.journal.Journal.TheSendSync.{the_send as journal_send}
+use Rattle.carol_replica.proofs.replicas.Replicas.TheSendSync.{the_send as replicas_send}
+use Rattle.carol_house.proofs.links.Links.TheSendSync.{the_send as links_send}
+use Rattle.carol_house.proofs.settled.Settled.TheSendSync.{the_send as settled_send}
 use Rattle.carol_house.specs.contracts.house.House as house
+use Rattle.carol_house.specs.contracts.tables.Tables as tables
 
 ruleset parts = (rules, sendable, crosses, formula_crosses, step_crosses, boxed_send, items_send, shape_send, store_send, formula_boxed_send, term_send, part_send)
 
@@ -44,5 +52,8 @@ accepted_send = search (sendable, program_send, table_send) depth 20
 scene_send : IsSend (scene.the_field).row
 scene_send = search (rules, sendable, items_send, plan_send) depth 20
 
+tables_send : IsSend (tables.the_field).row
+tables_send = search (rules, sendable, crosses, machine_send, grants_send, holding_send, journal_send, replicas_send, links_send, settled_send) depth 20
+
 pub house_send : IsSend house.the_row
-house_send = search (rules, sendable, crosses, accepted_send, scene_send, event_send) depth 20
+house_send = search (sendable, crosses, accepted_send, scene_send, event_send, tables_send) depth 20
