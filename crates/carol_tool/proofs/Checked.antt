@@ -79,10 +79,10 @@ trees_agree tree other answer (inr h) (inl g) = absurd (first_none g.0 (subst (I
 trees_agree tree other answer (inr h) (inr g) =
     verdicts_agree tree h.1.program g.1.program other answer h.1.rules h.1.names g.1.rules g.1.names h.1.verdict g.1.verdict
 
-pub checks : IsMeaning command.Check (λ file. TreeSays file.program)
-checks = record {
-  to = λ bytes a h. h;
-  from = λ bytes a h. h;
+pub checks : (bytes : List ℕ) → IsMeaning command.Check bytes (λ file. TreeSays file.program)
+checks bytes = record {
+  to = λ a h. h;
+  from = λ a h. h;
   own = λ file. tree_own file.program;
   agree = λ file. trees_agree file.program;
 }

@@ -6,6 +6,7 @@ pub mod Refusals
 pub mod Staging
 pub mod Handed
 pub mod Stepped
+pub mod Played
 pub mod Ran
 pub mod Accorded
 pub mod Checked

@@ -17,9 +17,9 @@ use Rattle.carol_tool.proofs.Outcomes.{IsBound, bound_of_file, sole_of_error}
 
 -- What is said of a file is what the bytes mean to the command, with a status of its own, and two
 -- answers to the same file agree.
-pub record IsMeaning (command : Command) (says : FileTree → Answer → Type 0) : Type 0 where
-  pub to : (bytes : List ℕ) (a : Answer) → BytesSay says bytes a → Says command bytes a.0 a.1
-  pub from : (bytes : List ℕ) (a : Answer) → Says command bytes a.0 a.1 → BytesSay says bytes a
+pub record IsMeaning (command : Command) (bytes : List ℕ) (says : FileTree → Answer → Type 0) : Type 0 where
+  pub to : (a : Answer) → BytesSay says bytes a → Says command bytes a.0 a.1
+  pub from : (a : Answer) → Says command bytes a.0 a.1 → BytesSay says bytes a
   pub own : (file : FileTree) (a : Answer) → says file a → IsOwn a.0
   pub agree : (file : FileTree) (other answer : Answer) → says file other → says file answer → Agree command other answer
 
@@ -39,33 +39,33 @@ bytes_own says own bytes answer (Large limit, m, h) = subst (λ a. IsOwn a.0) (s
 pub agree_same : (command : Command) (other answer : Answer) → other ≡ answer → Agree command other answer
 agree_same command other answer e = record { status = λ f g. ap (λ a. a.0) e; text = λ f s. ap (λ a. a.1) e }
 
-reply_of : (command : Command) (says : FileTree → Answer → Type 0) → IsMeaning command says → (bytes : List ℕ) (answer : Answer)
+reply_of : (command : Command) (bytes : List ℕ) (says : FileTree → Answer → Type 0) → IsMeaning command bytes says → (answer : Answer)
     → IsBound (Agree command) (BytesSay says bytes) answer → IsReply command bytes answer
-reply_of command says meaning bytes answer h = record {
+reply_of command bytes says meaning answer h = record {
   own = bytes_own says meaning.own bytes answer h.has;
-  says = meaning.to bytes answer h.has;
-  fixed = λ other p. h.only other (meaning.from bytes other p);
+  says = meaning.to answer h.has;
+  fixed = λ other p. h.only other (meaning.from other p);
 }
 
 -- the bytes are a file
-pub reply_of_file : (command : Command) (says : FileTree → Answer → Type 0) → IsMeaning command says → (file : FileTree) (bytes : List ℕ) (r : Result Reply AllocError)
+pub reply_of_file : (command : Command) (bytes : List ℕ) (says : FileTree → Answer → Type 0) → IsMeaning command bytes says → (file : FileTree) (r : Result Reply AllocError)
     → Means bytes (Read file) → ((o : Outcome) → Means bytes o → o ≡ Read file)
     → IfOk r (λ reply. says file (answer_of reply)) → IfOk r (λ reply. IsReply command bytes (answer_of reply))
-reply_of_file command says meaning file bytes (Ok reply) m once h =
-    reply_of command says meaning bytes (answer_of reply) (bound_of_file (Agree command) says file bytes (answer_of reply) m once (record {
+reply_of_file command bytes says meaning file (Ok reply) m once h =
+    reply_of command bytes says meaning (answer_of reply) (bound_of_file (Agree command) says file bytes (answer_of reply) m once (record {
       has = h;
       only = λ other p. meaning.agree file other (answer_of reply) p h;
     }))
-reply_of_file command says meaning file bytes (Err e) m once h = tt
+reply_of_file command bytes says meaning file (Err e) m once h = tt
 
 -- they aren't read
-pub reply_of_error : (command : Command) (says : FileTree → Answer → Type 0) → IsMeaning command says → (bytes : List ℕ) (error : TextError) (r : Result Reply AllocError)
+pub reply_of_error : (command : Command) (bytes : List ℕ) (says : FileTree → Answer → Type 0) → IsMeaning command bytes says → (error : TextError) (r : Result Reply AllocError)
     → IsMeant bytes (Err error) → IsOnlyMeant bytes (Err error)
     → IfOk r (λ reply. text_answer error ≡ Some (answer_of reply)) → IfOk r (λ reply. IsReply command bytes (answer_of reply))
-reply_of_error command says meaning bytes error (Ok reply) m once h =
+reply_of_error command bytes says meaning error (Ok reply) m once h =
     let sole = sole_of_error says bytes error (answer_of reply) m once h in
-    reply_of command says meaning bytes (answer_of reply) (record {
+    reply_of command bytes says meaning (answer_of reply) (record {
       has = sole.has;
       only = λ other p. agree_same command other (answer_of reply) (sole.only other p);
     })
-reply_of_error command says meaning bytes error (Err e) m once h = tt
+reply_of_error command bytes says meaning error (Err e) m once h = tt

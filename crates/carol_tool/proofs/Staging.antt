@@ -1,6 +1,7 @@
 -- That the answers to a program in a scene agree.
 use Rattle.std.proofs.Common.{◌≡◌, [], refl, sym, ◌∙◌, ap, subst, inl, inr}
-use Rattle.std.specs.Prelude.{Option, Some, None}
+use Rattle.std.specs.Prelude.{Option, Some, None, Result, Ok, Err, IfOk}
+use Rattle.std.specs.declared.alloc.AllocError.{AllocError}
 use Rattle.carol_program.specs.declared.program.Program.{Program}
 use Rattle.carol_program.specs.declared.scenes.Scene.{Scene}
 use Rattle.carol_program.specs.Rules.{Rules, rules_in}
@@ -16,12 +17,17 @@ use Rattle.carol_scenario.proofs.Valid.{valid_scene}
 use Rattle.carol_syntax.specs.declared.scenes.SceneDecl.{SceneDecl}
 use Rattle.carol_syntax.specs.Files.{ProgramTree}
 use Rattle.carol_tool.specs.Answer.{IsOwn}
+use Rattle.carol_tool.specs.Reply.{answer_of}
 use Rattle.carol_tool.specs.Says.{Agree}
 use Rattle.carol_tool.specs.Staged.{IsProgramFor, IsReady, IsToldName, IsToldRest, IsToldScene, StagedSays, TakesSay, faults_of, scene_of}
+use Rattle.carol_tool.specs.Stages.{IsStage}
 use Rattle.carol_tool.specs.Texts.{Answer, line_answer}
 use Rattle.carol_tool.specs.declared.command.Command.{Command}
 use Rattle.carol_tool.specs.declared.reply.Line.{Line}
 use Rattle.carol_tool.specs.declared.reply.Line.TheVariants as line
+use Rattle.carol_tool.specs.declared.reply.Reply.{Reply}
+use Rattle.carol_tool.specs.declared.staged.Stage.{Stage}
+use Rattle.carol_tool.specs.declared.staged.Stage.TheVariants.{Ready}
 use Rattle.carol_tool.proofs.Firsts.{first_line, first_none}
 use Rattle.carol_tool.proofs.Refusals.{IsOfAccepted, accepted_own, refusal_own, refusals_agree, refused_first, refused_last}
 use Rattle.carol_tool.proofs.Replies.{agree_same}
@@ -141,6 +147,17 @@ staged_agree command said is tree scene rest other answer (inr h) (inr g) =
 
     names : h.kept.program.names ≡ g.kept.program.names
     names = kept_names tree scene rest h.kept h.ready ∙ sym (kept_names tree scene rest g.kept g.ready)
+
+-- ---- what is carried out
+
+-- a stage hands it on, and this is said of it
+pub carried_out : (said : Kept → Scene → Answer → Type 0) (tree : ProgramTree) (scene : SceneDecl) (rest : Option Line) (kept : Kept) (given : Scene) (stage : Stage)
+    (r : Result Reply AllocError) → stage ≡ Ready kept given → IsStage tree scene rest stage → IfOk r (λ reply. said kept given (answer_of reply))
+    → IfOk r (λ reply. StagedSays said tree scene rest (answer_of reply))
+carried_out said tree scene rest kept given stage (Ok reply) is stands h =
+    let ready : IsReady tree scene rest kept × (given ≡ scene_of kept scene) = subst (IsStage tree scene rest) is stands in
+    inr (record { kept = kept; ready = ready.0; says = subst (λ n. said kept n (answer_of reply)) ready.1 h })
+carried_out said tree scene rest kept given stage (Err e) is stands h = tt
 
 -- ---- parts of a file
 

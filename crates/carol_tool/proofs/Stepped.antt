@@ -1,5 +1,5 @@
 -- That the answers of `step` agree.
-use Rattle.std.proofs.Common.{◌≡◌, List, [], map, sym, ◌∙◌, ap, subst}
+use Rattle.std.proofs.Common.{◌≡◌, List, ℕ, [], map, sym, ◌∙◌, ap, subst}
 use Rattle.std.specs.Prelude.{None, Some}
 use Rattle.carol_history.specs.Laws.{ScriptIsSingle}
 use Rattle.carol_history.specs.Scripts.{ComesTo, Scripted}
@@ -45,10 +45,10 @@ played once lines = record {
   agree = λ one two scene ruled named valid other answer h g. played_agree lines one two scene ruled (once (rules_in one.program) scene valid) other answer h g;
 }
 
-pub steps : Scripts → IsMeaning command.Step FileSays
-steps once = record {
-  to = λ bytes a h. h;
-  from = λ bytes a h. h;
+pub steps : Scripts → (bytes : List ℕ) → IsMeaning command.Step bytes FileSays
+steps once bytes = record {
+  to = λ a h. h;
+  from = λ a h. h;
   own = λ file a h. takes_own command.Step (PartsSay file.program)
       (λ (scene, script) b g. staged_own command.Step (IsPlayed script) (played once script) file.program scene None b g)
       (both file.scene file.script) a h;

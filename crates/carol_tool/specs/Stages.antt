@@ -1,6 +1,8 @@
--- What the stages hand on, from a program to where it is carried out.
+-- What the stages hand on, from a program to what is told of it.
 use Rattle.std.specs.Prelude.{◌≡◌, ◌⊎◌, [], Option, Some, None}
 use Rattle.carol_accept.specs.Refusals.{IsKeptAs}
+use Rattle.carol_house.specs.House.{rules_of}
+use Rattle.carol_house_script.specs.declared.script.Played.{Played}
 use Rattle.carol_program.specs.declared.program.Program.{Program}
 use Rattle.carol_program.specs.declared.scenes.Scene.{Scene}
 use Rattle.carol_program.specs.Rules.{rules_in}
@@ -13,6 +15,7 @@ use Rattle.carol_syntax.specs.Files.{ProgramTree}
 use Rattle.carol_tool.specs.Check.{IsToldRefused}
 use Rattle.carol_tool.specs.Reply.{answer_of}
 use Rattle.carol_tool.specs.Staged.{IsReady, IsToldBefore, scene_of}
+use Rattle.carol_tool.specs.Step.{script_answer}
 use Rattle.carol_tool.specs.Texts.{Answer, line_answer}
 use Rattle.carol_tool.specs.declared.reply.Line.{Line}
 use Rattle.carol_tool.specs.declared.reply.Line.TheVariants as line
@@ -58,3 +61,8 @@ IsStage tree scene rest (Ready kept given) =
 abbrev pub IsValidIn : Stage → Type 0
 IsValidIn (Told reply) = Unit {0}
 IsValidIn (Ready kept scene) = IsValidScene (rules_in kept.program) scene
+
+-- what is told of a house that a script was run in
+abbrev pub played_answer : Played → Answer
+played_answer played = script_answer (rules_of played.house) played.house.scene
+    (record { history = played.house.history; bad = played.bad })

@@ -14,6 +14,8 @@ mod staged;
 mod status;
 mod step;
 #[cfg(test)]
+mod step_tests;
+#[cfg(test)]
 mod tests;
 mod told;
 

@@ -9,6 +9,7 @@ ghost use Rattle.carol_tool.specs.Answer.{IsReply};
 ghost use Rattle.carol_tool.specs.Reply.{answer_of};
 ghost use Rattle.carol_tool.specs.Staged.{StagedSays};
 ghost use Rattle.carol_tool.specs.Step.{FileSays, IsPlayed, statement_of};
+ghost use Rattle.carol_tool.specs.Stages.{played_answer};
 
 use super::command::Command;
 use super::reply::{Line, Reply, one_line};
@@ -100,7 +101,7 @@ fn statements_of(alloc: Global, script: &[ScriptLine]) -> Result<StatementList, 
     Ok(lines)
 }
 
-// Runs the script, and reports its history or its first statement that gives no event.
+// Runs the script, and says what it came to.
 fn play(
     alloc: Global,
     accepted: Accepted,
@@ -113,11 +114,18 @@ fn play(
 {
     let lines = statements_of(alloc, script)?;
     let house = House::new(alloc, accepted, scene)?;
-    let Played { house, bad } = run_script(house, &lines)?;
-    match bad {
+    let played = run_script(house, &lines)?;
+    outcome(alloc, &played)
+}
+
+// Reports the history, or the first statement that gave no event.
+fn outcome(alloc: Global, played: &Played) -> Result<Reply, AllocError>
+    ensures { IfOk result (λ reply. answer_of reply ≡ played_answer played.now) }
+{
+    match played.bad {
         None => Ok(Reply {
             status: Status::Ok,
-            text: report(alloc, &house)?,
+            text: report(alloc, &played.house)?,
         }),
         Some(bad) => one_line(alloc, Line::BadStatement(bad)),
     }

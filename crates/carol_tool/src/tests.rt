@@ -1,11 +1,11 @@
 use super::{Status, carol};
 use carol_outer::{Gate, MemorySink, MemorySource, OpenGate};
-use std::alloc::Global;
+use std::alloc::{AllocError, Global};
 use std::sync::Wait;
 use std::test::Fail;
 use std::thread::Threads;
 
-const PROGRAM: &[u8] = b"program
+pub(crate) const PLAIN: &[u8] = b"program
 counter a = 0;
 counter b = 5;
 invariant true;
@@ -27,7 +27,7 @@ workers 2;
 gossipers 1;
 ";
 
-const SESSIONS: &[u8] = b"session at 0 {
+const ADDED: &[u8] = b"session at 0 {
 adda(3);
 }
 session at 1 {
@@ -71,19 +71,70 @@ global 7 3
 end 9
 ";
 
-const OPEN_REPORT: &[u8] = b"transcript
-issue 0 0 0:3
-return 0 3
-results
-result 0 0 value 3
-result 1 0 open
-result 1 1 open
-stores
-store 0 3 5
-store 1 0 5
-global 3 5
-end 2
+pub(crate) const BANK: &[u8] = b"program
+counter bal = 100;
+invariant bal >= 0;
+guard low: here.bal <= there.bal;
+op withdraw(n: 1 <= n and n <= 1000) gives 0 <= result and result <= n {
+query v under low;
+if n <= v.bal {
+issue bal -= n;
+return n;
+} else {
+return 0;
+}
+}
+op deposit(n: 1 <= n and n <= 1000) gives result = n {
+issue bal += n;
+return n;
+}
+end
 ";
+
+pub(crate) const SESSIONS: &[u8] = b"session at 0 {
+withdraw(80);
+}
+session at 1 {
+withdraw(50);
+}
+";
+
+pub(crate) const FULL: &[u8] = b"go 0;
+go 0;
+go 1;
+go 1;
+go 0;
+go 1;
+go 1;
+go 0;
+go 0;
+go 0;
+go 0;";
+
+pub(crate) const FULL_REPORT: &[u8] = b"transcript
+grant 0 0
+query 0 0 100
+grant 1 0
+query 1 0 100
+refuse 0 barred 1 0
+issue 1 0 0:-50
+return 1 50
+deliver 1 0 0
+grant 0 0
+query 0 0 50
+return 0 0
+results
+result 0 0 value 0
+result 1 0 value 50
+stores
+store 0 50
+store 1 50
+global 50
+end 11
+";
+
+/// The end of an input.
+pub(crate) const LAST: &[u8] = b" end\n";
 
 // The same input laid out otherwise, with other names and parentheses that aren't needed.
 const OTHER_LAYOUT: &[u8] = b"program counter a = 0 ; counter b = 5 ; invariant true ;
@@ -124,7 +175,8 @@ pub(crate) struct Answer {
     pub sink: MemorySink,
 }
 
-/// Calls `carol` with one word, on these parts of an input. The source gives 100 bytes a call.
+/// Calls `carol` with one word, on these parts of an input. The source gives 100 bytes a call, and the
+/// sink takes 5.
 pub(crate) fn call<R: Threads + Wait + Sync + AllocGlobal>(
     rt: &R,
     word: &[u8],
@@ -161,53 +213,14 @@ pub(crate) fn call_through<R: Threads + Wait + Sync + AllocGlobal, G: Gate + Syn
     }
     let words = vec![in alloc; Vec::from_slice(alloc, word)?]?;
     let mut source = MemorySource::new(bytes, 100, Vec::from_slice(alloc, failing_reads)?);
-    let mut sink = MemorySink::new(alloc, room, 64, Vec::from_slice(alloc, failing_writes)?)?;
+    let mut sink = MemorySink::new(alloc, room, 5, Vec::from_slice(alloc, failing_writes)?)?;
     let status = carol(rt, alloc, &words, &mut source, &mut sink, gate);
     Ok(Answer { status, sink })
 }
 
-#[test]
-fn steps(rt: HostRuntime) -> Result<(), Fail> {
-    let rows: [(&[u8], &[u8], Status, &[u8]); 6] = [
-        (SESSIONS, WHOLE, Status::Ok, WHOLE_REPORT),
-        (
-            SESSIONS,
-            b"end\nscript\ngo 0;\ngo 0;\nend\n",
-            Status::Ok,
-            OPEN_REPORT,
-        ),
-        (
-            b"",
-            b"end\nscript\ngossip 0 1;\nend\n",
-            Status::Script,
-            b"script 1 nothing new\n",
-        ),
-        (
-            b"",
-            b"end\nscript\ngossip 0 2;\nend\n",
-            Status::Script,
-            b"script 1 no such pair\n",
-        ),
-        (
-            b"",
-            b"end\nscript\ngo 0;\nend\n",
-            Status::Script,
-            b"script 1 no such session\n",
-        ),
-        (
-            SESSIONS,
-            b"end\nscript\ngo 0;\ngo 0;\ngo 0;\nend\n",
-            Status::Script,
-            b"script 3 finished\n",
-        ),
-    ];
-    for (sessions, script, status, output) in &rows {
-        let parts = [PROGRAM, SCENE, *sessions, *script];
-        let answer = call(&rt, b"step", &parts, &[], 4096, &[])?;
-        assert_eq!(rt; answer.status, *status);
-        assert_eq!(rt; answer.sink.taken(), *output);
-    }
-    Ok(())
+/// The head of a scene with two workers and one gossiper.
+pub(crate) fn head(alloc: Global, replicas: u32, tries: u32) -> Result<String, AllocError> {
+    format!(in alloc; "scene\nreplicas {replicas};\ntries {tries};\nworkers 2;\ngossipers 1;\n")
 }
 
 // The bytes with a comment behind each word.
@@ -225,10 +238,11 @@ fn with_comments(alloc: Global, bytes: &[u8]) -> Result<Vec<u8>, Fail> {
 #[test]
 fn reads_any_layout(rt: HostRuntime) -> Result<(), Fail> {
     let noted = with_comments(rt.alloc(), OTHER_LAYOUT)?;
-    let rows: [([&[u8]; 3], &[u8]); 3] = [
-        ([OTHER_LAYOUT, b"", b""], WHOLE_REPORT),
-        ([noted.as_slice(), b"# the end", b""], WHOLE_REPORT),
-        ([PROGRAM, SCENE, THRICE], THRICE_REPORT),
+    let rows: [([&[u8]; 4], &[u8]); 4] = [
+        ([PLAIN, SCENE, ADDED, WHOLE], WHOLE_REPORT),
+        ([OTHER_LAYOUT, b"", b"", b""], WHOLE_REPORT),
+        ([noted.as_slice(), b"# the end", b"", b""], WHOLE_REPORT),
+        ([PLAIN, SCENE, THRICE, b""], THRICE_REPORT),
     ];
     for (parts, output) in &rows {
         let answer = call(&rt, b"step", parts, &[], 4096, &[])?;
@@ -244,7 +258,7 @@ const COUNTER: &[u8] = b"program\ncounter c = 0;\ninvariant true;\nend\n";
 fn refuses_texts(rt: HostRuntime) -> Result<(), Fail> {
     let rows: [([&[u8]; 3], &[u8]); 13] = [
         ([b"", b"", b""], b"text 1 1\n"),
-        ([PROGRAM, SCENE, b""], b"text 19 1\n"),
+        ([PLAIN, SCENE, b""], b"text 19 1\n"),
         ([b"program\n", b"invariant true;\n", b""], b"text 3 1\n"),
         ([b"program\ncounter c = ", b"05", b";\n"], b"text 2 13\n"),
         ([b"program\ncounter c = ", b"+5", b";\n"], b"text 2 13\n"),
@@ -262,9 +276,17 @@ fn refuses_texts(rt: HostRuntime) -> Result<(), Fail> {
         ),
         (
             [
-                PROGRAM,
+                PLAIN,
                 SCENE,
                 b"session at 0 { adda(1000000001); } end script end",
+            ],
+            b"argument 0 0 0\n",
+        ),
+        (
+            [
+                BANK,
+                SCENE,
+                b"session at 0 { withdraw(0); } session at 1 { withdraw(50); } end script go 0; end",
             ],
             b"argument 0 0 0\n",
         ),
@@ -275,14 +297,6 @@ fn refuses_texts(rt: HostRuntime) -> Result<(), Fail> {
                 b"end script end",
             ],
             b"name 3 11 unknown\n",
-        ),
-        (
-            [
-                b"program invariant not false; end ",
-                SCENE,
-                b"end script end",
-            ],
-            b"plain form only\n",
         ),
     ];
     for (parts, output) in &rows {
@@ -311,7 +325,7 @@ fn tells_a_limit(rt: HostRuntime) -> Result<(), Fail> {
 
 #[test]
 fn refuses_other_words(rt: HostRuntime) -> Result<(), Fail> {
-    let answer = call(&rt, b"walk", &[PROGRAM], &[0], 4096, &[])?;
+    let answer = call(&rt, b"walk", &[PLAIN], &[0], 4096, &[])?;
     assert_eq!(rt; answer.status, Status::Usage);
     assert_eq!(rt;
         answer.sink.taken(),
@@ -320,10 +334,12 @@ fn refuses_other_words(rt: HostRuntime) -> Result<(), Fail> {
     Ok(())
 }
 
+// Each reading of the input fails, the last one too, which is to find its end.
 #[test]
 fn tells_each_read_fault(rt: HostRuntime) -> Result<(), Fail> {
-    let parts = [PROGRAM, SCENE, SESSIONS, WHOLE];
-    for number in 0..6u64 {
+    let scene = head(rt.alloc(), 2, 2)?;
+    let parts = [BANK, scene.as_bytes(), SESSIONS, b"end script ", FULL, LAST];
+    for number in 0..7u64 {
         let answer = call(&rt, b"step", &parts, &[number], 4096, &[])?;
         assert_eq!(rt; answer.status, Status::ReadFault);
         assert_eq!(rt; answer.sink.taken(), b"read fault\n".as_slice());
@@ -333,12 +349,13 @@ fn tells_each_read_fault(rt: HostRuntime) -> Result<(), Fail> {
 
 #[test]
 fn tells_each_write_fault(rt: HostRuntime) -> Result<(), Fail> {
-    let parts = [PROGRAM, SCENE, SESSIONS, WHOLE];
-    for number in 0..4u64 {
+    let scene = head(rt.alloc(), 2, 2)?;
+    let parts = [BANK, scene.as_bytes(), SESSIONS, b"end script ", FULL, LAST];
+    for number in 0..50u64 {
         let answer = call(&rt, b"step", &parts, &[], 4096, &[number])?;
         assert_eq!(rt; answer.status, Status::WriteFault);
-        assert!(rt; WHOLE_REPORT.starts_with(answer.sink.taken()));
-        assert_eq!(rt; answer.sink.taken().len(), 64 * number as usize);
+        assert!(rt; FULL_REPORT.starts_with(answer.sink.taken()));
+        assert_eq!(rt; answer.sink.taken().len(), 5 * number as usize);
     }
     let answer = call(&rt, b"step", &parts, &[], 10, &[])?;
     assert_eq!(rt; answer.status, Status::WriteFault);
