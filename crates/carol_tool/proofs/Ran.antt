@@ -1,5 +1,5 @@
 -- That the answers of `run` have statuses of their own, and agree.
-use Rattle.std.proofs.Common.{◌≡◌, ◌≤◌, List, length, subst}
+use Rattle.std.proofs.Common.{◌≡◌, ◌≤◌, ℕ, List, length, subst}
 use Rattle.std.specs.Prelude.{None}
 use Rattle.carol_event.specs.declared.event.Event.{Event}
 use Rattle.carol_history.specs.Bounds.{HasNoneBehind, most_events}
@@ -43,10 +43,10 @@ ran = record {
   };
 }
 
-pub runs : IsMeaning command.Run FileRuns
-runs = record {
-  to = λ bytes a h. h;
-  from = λ bytes a h. h;
+pub runs : (bytes : List ℕ) → IsMeaning command.Run bytes FileRuns
+runs bytes = record {
+  to = λ a h. h;
+  from = λ a h. h;
   own = λ file a h. takes_own command.Run (SceneSays file.program)
       (λ scene b g. staged_own command.Run IsToldRun ran file.program scene None b g)
       (last_scene file.scene file.script file.tail) a h;

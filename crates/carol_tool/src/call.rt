@@ -135,8 +135,8 @@ fn run_reply<R: Threads + Wait + Sync, S: Source, G: Gate + Sync>(
         (end_of (S.left source.new) (S.faults source.new))
         answer.0 answer.1 }
 {
-    let bytes = read_all(alloc, source, MOST_TEXT_BYTES)?;
-    Ok(run(rt, alloc, &bytes, gate)?)
+    let text = read_all(alloc, source, MOST_TEXT_BYTES)?;
+    Ok(run(rt, alloc, &text, gate)?)
 }
 
 // Writes the text of what a command came to, and answers its status unless writing failed.

@@ -1,40 +1,26 @@
 use super::Status;
-use super::tests::{call, call_through};
+use super::tests::{Answer, BANK, call, call_through, head};
 use carol_outer::Gate;
+use std::sync::Wait;
 use std::sync::atomic::{AtomicBool, Ordering};
 use std::test::Fail;
 use std::thread;
+use std::thread::Threads;
 
-const BANK: &[u8] = b"program
-counter bal = 100;
-invariant bal >= 0;
-guard low: here.bal <= there.bal;
-op withdraw(n: 1 <= n and n <= 1000) gives 0 <= result and result <= n {
-query v under low;
-if n <= v.bal {
-issue bal -= n;
-return n;
-} else {
-return 0;
-}
-}
-op deposit(n: 1 <= n and n <= 1000) gives result = n {
-issue bal += n;
-return n;
-}
-end
-";
-
-const TAKES_AND_GIVES: &[u8] = b"scene
-replicas 2;
-tries 1;
-workers 2;
-gossipers 1;
-session at 0 {
+const TAKES_AND_GIVES: &[u8] = b"session at 0 {
 withdraw(80);
 }
 session at 1 {
 deposit(30);
+}
+end
+";
+
+const BOTH_GIVE: &[u8] = b"session at 0 {
+deposit(1);
+}
+session at 1 {
+deposit(2);
 }
 end
 ";
@@ -66,14 +52,9 @@ invariant true;
 op many() gives true {
 ";
 
-const ONE_REPLICA: &[u8] = b"return 0;
+const RETURNS: &[u8] = b"return 0;
 }
 end
-scene
-replicas 1;
-tries 1;
-workers 2;
-gossipers 1;
 ";
 
 // The kinds of events behind which a gate holds, and with which it lets go.
@@ -93,23 +74,25 @@ struct Holds {
     session: u32,
     behind: u8,
     until: u32,
+    turns: u32,
     returned: AtomicBool,
     spent: AtomicBool,
 }
 
 impl Holds {
-    fn new(session: u32, behind: u8, until: u32) -> Holds {
+    fn new(session: u32, behind: u8, until: u32, turns: u32) -> Holds {
         Holds {
             session,
             behind,
             until,
+            turns,
             returned: AtomicBool::new(false),
             spent: AtomicBool::new(false),
         }
     }
 
     fn hold(&self) {
-        for _ in 0..MOST_TURNS {
+        for _ in 0..self.turns {
             if self.returned.load(Ordering::SeqCst) {
                 return;
             }
@@ -143,11 +126,21 @@ fn lines_of(text: &[u8], start: &[u8], end: &[u8]) -> usize {
         .count()
 }
 
+// Runs a bank with these sessions, two replicas and two workers.
+fn run_bank<R: Threads + Wait + Sync + AllocGlobal>(
+    rt: &R,
+    sessions: &[u8],
+    gate: &Holds,
+) -> Result<Answer, Fail> {
+    let head = head(rt.alloc(), 2, 1)?;
+    let parts = [BANK, head.as_bytes(), sessions];
+    call_through(rt, b"run", &parts, &[], 4096, &[], gate)
+}
+
 #[test]
 fn a_gate_decides_the_order(rt: HostRuntime) -> Result<(), Fail> {
-    let gate = Holds::new(0, GRANT, 1);
-    let parts = [BANK, TAKES_AND_GIVES];
-    let answer = call_through(&rt, b"run", &parts, &[], 4096, &[], &gate)?;
+    let gate = Holds::new(0, GRANT, 1, MOST_TURNS);
+    let answer = run_bank(&rt, TAKES_AND_GIVES, &gate)?;
     assert!(rt; !gate.spent.load(Ordering::SeqCst));
     assert_eq!(rt; answer.status, Status::Ok);
     let given = place_of(answer.sink.taken(), b"return 1 30");
@@ -157,13 +150,22 @@ fn a_gate_decides_the_order(rt: HostRuntime) -> Result<(), Fail> {
 
 #[test]
 fn another_gate_decides_it_otherwise(rt: HostRuntime) -> Result<(), Fail> {
-    let gate = Holds::new(1, ISSUE, 0);
-    let parts = [BANK, TAKES_AND_GIVES];
-    let answer = call_through(&rt, b"run", &parts, &[], 4096, &[], &gate)?;
+    let gate = Holds::new(1, ISSUE, 0, MOST_TURNS);
+    let answer = run_bank(&rt, TAKES_AND_GIVES, &gate)?;
     assert!(rt; !gate.spent.load(Ordering::SeqCst));
     assert_eq!(rt; answer.status, Status::Ok);
     let taken = place_of(answer.sink.taken(), b"return 0 80");
     assert!(rt; taken.is_some() && taken < place_of(answer.sink.taken(), b"return 1 30"));
+    Ok(())
+}
+
+// Nobody waits for an entry here, so only those that gossip deliver one. The gate gives them time.
+#[test]
+fn gossip_delivers(rt: HostRuntime) -> Result<(), Fail> {
+    let gate = Holds::new(1, ISSUE, 2, 1_000_000);
+    let answer = run_bank(&rt, BOTH_GIVE, &gate)?;
+    assert_eq!(rt; answer.status, Status::Ok);
+    assert!(rt; place_of(answer.sink.taken(), b"deliver ").is_some());
     Ok(())
 }
 
@@ -193,7 +195,8 @@ fn stops_where_the_history_is_full(rt: HostRuntime) -> Result<(), Fail> {
     for _ in 0..40 {
         input.extend_from_slice(b"issue c += 1;\n")?;
     }
-    input.extend_from_slice(ONE_REPLICA)?;
+    input.extend_from_slice(RETURNS)?;
+    input.extend_from_slice(head(rt.alloc(), 1, 1)?.as_bytes())?;
     for _ in 0..64 {
         input.extend_from_slice(b"session at 0 {\nmany() times 64;\n}\n")?;
     }
@@ -209,11 +212,12 @@ fn stops_where_the_history_is_full(rt: HostRuntime) -> Result<(), Fail> {
 
 #[test]
 fn takes_a_program_and_a_scene_alone(rt: HostRuntime) -> Result<(), Fail> {
-    let rows: [[&[u8]; 3]; 4] = [
-        [b"program\ncounter c = 0;\ninvariant true;\nend\n", b"", b""],
-        [b"program\ninvariant x >= 0;\nend\n", b"", b""],
-        [BANK, TAKES_AND_GIVES, b"script\ngo 0;\nend\n"],
-        [BANK, TAKES_AND_GIVES, b"transcript\n"],
+    let head = head(rt.alloc(), 2, 1)?;
+    let rows: [[&[u8]; 4]; 4] = [
+        [b"program\n", b"counter c = 0;\n", b"invariant true;\n", b"end\n"],
+        [b"program\n", b"invariant x >= 0;\n", b"end\n", b""],
+        [BANK, head.as_bytes(), TAKES_AND_GIVES, b"script\ngo 0;\nend\n"],
+        [BANK, head.as_bytes(), TAKES_AND_GIVES, b"transcript\n"],
     ];
     for parts in &rows {
         let answer = call(&rt, b"run", parts, &[], 4096, &[])?;
