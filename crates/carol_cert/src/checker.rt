@@ -193,6 +193,7 @@ fn walk_branches(
     if !has_sides(k) {
         return None;
     }
+    let count = place.count();
     let mut block = Block::new(Item::AtMost(&*variable, k), &*high);
     let mut walked = TURN;
     let mut tree = &*low;
@@ -212,7 +213,7 @@ fn walk_branches(
                 tree = low.get();
             }
             _ => {
-                let below = walk(&(&*place).more(block.bounds()), tree)?;
+                let below = walk(&(&*place).more_from(count, block.bounds()), tree)?;
                 walked = walked.and(below);
                 match block.turn() {
                     Some(next) => tree = next,

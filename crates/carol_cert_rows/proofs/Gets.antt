@@ -13,6 +13,9 @@ module _ {X : Type 0} where
   slice_get-back (x ∷ xs) ys zero k e = absurd (omega arith)
   slice_get-back (x ∷ xs) ys (suc i) k e = slice_get-back xs ys i k (omega arith)
 
+  pub slice_get-appended : (xs : List X) (x : X) (i : ℕ) → i ≡ length xs → slice_get (xs ++ x ∷ []) i ≡ Some x
+  slice_get-appended xs x i e = slice_get-back xs (x ∷ []) i 0 (omega arith)
+
   pub slice_get-set_same : (xs : List X) (x : X) (i : ℕ) → i < length xs → slice_get (slice_set xs i x) i ≡ Some x
   slice_get-set_same [] x i h = absurd (omega arith)
   slice_get-set_same (y ∷ xs) x zero h = refl

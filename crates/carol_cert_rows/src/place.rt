@@ -28,8 +28,8 @@ pub enum Item<'a> {
 pub enum Place<'a> {
     /// The formulas that were given.
     Root(&'a [Formula]),
-    /// The list before with more items at its end. `at` is the number of the first of them, and 2^32
-    /// where that is beyond the numbers of a `u32`.
+    /// The list before with more items at its end. `at` is the number of the first of them, and
+    /// 2^32 where that is beyond the numbers of a `u32`.
     More {
         at: u64,
         items: &'a [Item<'a>],
@@ -61,8 +61,19 @@ impl<'a> Place<'a> {
         ensures claims { claims_at result ≡ claims_at self.now ++ map claim_of_item items.now }
         ensures right { IsPlace result }
     {
+        self.more_from(self.count(), items)
+    }
+
+    /// The place with more items at the end of its list, whose count is known.
+    pub fn more_from(&'a self, count: u64, items: &'a [Item<'a>]) -> Place<'a>
+        requires right { IsPlace self.now }
+        requires count { count ≡ counted (length (claims_at self.now)) }
+        requires bounded { AreItems items.now }
+        ensures claims { claims_at result ≡ claims_at self.now ++ map claim_of_item items.now }
+        ensures right { IsPlace result }
+    {
         Place::More {
-            at: self.count(),
+            at: count,
             items,
             before: self,
         }

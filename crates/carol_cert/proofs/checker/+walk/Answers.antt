@@ -38,13 +38,13 @@ walk_branches-returns-in_err-below-in_default t c =
     let number : FitsSigned w128 c.args.k = search rules in
     let claims = claims_at c.args.place.now in
     let whole = over _ _ claims c.loop-tree.walked _ c.loop-tree.invariant.stands (ap (λ z. Branch c.args.variable.now z (proof_of c.args.low.now) (proof_of c.args.high.now)) (to_z-of_z w128 c.args.k number)) in
-    let place = below_bounds claims (claims_at c.more.result) c.bounds.result.now (held c.loop-tree.block) c.more.ensures.claims c.bounds.ensures.value in
+    let place = below_bounds claims (claims_at c.more_from.result) c.bounds.result.now (held c.loop-tree.block) c.more_from.ensures.claims c.bounds.ensures.value in
     rw c.from_residual.ensures (fails _ claims c.loop-tree.walked _ _ _ whole (λ goes. c.in_err-below-in_default.ensures (subst (GoesRight (proof_of c.loop-tree.tree.now)) (sym place) goes)))
 
 pub walk_branches-loop-tree-preserved : goal.walk_branches-loop-tree-preserved
 walk_branches-loop-tree-preserved t c =
     let claims = claims_at c.args.place.now in
-    let place = below_bounds claims (claims_at c.more.result) c.bounds.result.now (held c.loop-tree.block) c.more.ensures.claims c.bounds.ensures.value in
+    let place = below_bounds claims (claims_at c.more_from.result) c.bounds.result.now (held c.loop-tree.block) c.more_from.ensures.claims c.bounds.ensures.value in
     let goes = rw place at c.in_ok-below-in_default.ensures in
     record {
       block = c.in-Some.ensures.right;
@@ -56,6 +56,6 @@ walk_branches-returns-in-None t c =
     let number : FitsSigned w128 c.args.k = search rules in
     let claims = claims_at c.args.place.now in
     let whole = over _ _ claims c.loop-tree.walked _ c.loop-tree.invariant.stands (ap (λ z. Branch c.args.variable.now z (proof_of c.args.low.now) (proof_of c.args.high.now)) (to_z-of_z w128 c.args.k number)) in
-    let place = below_bounds claims (claims_at c.more.result) c.bounds.result.now (held c.loop-tree.block) c.more.ensures.claims c.bounds.ensures.value in
+    let place = below_bounds claims (claims_at c.more_from.result) c.bounds.result.now (held c.loop-tree.block) c.more_from.ensures.claims c.bounds.ensures.value in
     let goes = rw place at c.in_ok-below-in_default.ensures in
     ended _ claims c.and-walked-in_default.result (subst (Stands _ claims c.and-walked-in_default.result) (c.in-None.ensures.next claims) (further _ claims c.loop-tree.walked c.and-walked-in_default.result _ _ _ _ whole goes c.and-walked-in_default.ensures))
