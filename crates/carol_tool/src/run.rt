@@ -10,7 +10,7 @@ ghost use Rattle.carol_syntax.specs.Size.{IsSizedProgram};
 ghost use Rattle.carol_tool.specs.Answer.{IsReply};
 ghost use Rattle.carol_tool.specs.Reply.{answer_of};
 ghost use Rattle.carol_tool.specs.Run.{Ended, FileRuns, IsToldRun, SceneSays};
-ghost use Rattle.carol_worker.specs.Running.{HasNoLink, IsRun};
+ghost use Rattle.carol_worker.specs.Running.{HasEnded, HasNoLink};
 
 use super::command::Command;
 use super::reply::{Line, Reply, one_line};
@@ -121,7 +121,7 @@ fn run_house<R: Threads + Wait + Sync, G: Gate + Sync>(
     ensures none_behind { IfOk result (λ house. HasNoneBehind house.history) }
     ensures short { IfOk result (λ house.
         length house.history ≤ most_events (rules_of house) house.scene) }
-    ensures run { IfOk result IsRun }
+    ensures has_ended { IfOk result HasEnded }
 {
     let mut house = House::new(alloc, accepted, scene)?;
     house.reserve(MOST_EVENTS as u32)?;
@@ -130,7 +130,7 @@ fn run_house<R: Threads + Wait + Sync, G: Gate + Sync>(
 
 // The status that tells how the history of a run ended.
 fn ended(house: &House) -> Status
-    requires { IsRun house.now }
+    requires { HasEnded house.now }
     ensures { Ended house.now.scene house.now.history result }
 {
     if house.all_done() {

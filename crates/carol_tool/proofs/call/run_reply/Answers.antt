@@ -17,5 +17,5 @@ returns g c =
 pub returns-in_err-text : goal.returns-in_err-text
 returns-in_err-text g c =
     let given = c.in_err-text.ensures.given in
-    let said : outcome_answer c.from_residual-in_err-text.result ≡ stop_answer (stop_of c.in_err-text.field-0.0) = search rules in
-    meant_by_error (codes "run" ∷ []) _ _ given.0 _ command.Run c.in_err-text.field-0.0 _ said refl given.1 (λ more. (let e = given.3.1 more in cc)) (λ e. given.3.0 (ap Err e)) (λ e. c.in_err-text.ensures.fault (ap Err e)) c.in_err-text.ensures.counted
+    let said : outcome_answer c.from_residual.result ≡ stop_answer (stop_of c.in_err-text.field-0.0) = search rules in
+    meant_by_error (codes "run" ∷ []) _ _ given.0 command.Run c.in_err-text.field-0.0 _ said refl given.1 (λ more. (let e = given.3.1 more in cc)) (λ e. given.3.0 (ap Err e)) (λ e. c.in_err-text.ensures.fault (ap Err e)) c.in_err-text.ensures.counted

@@ -15,4 +15,4 @@ returns-in-Err g c =
     reply_of_error command.Run c.args.bytes.now FileRuns (runs c.args.bytes.now) c.in-Err.error c.bad_text.result c.in-Err.ensures.means c.in-Err.ensures.only c.bad_text.ensures
 
 pub run_file-requires : goal.run_file-requires
-run_file-requires g c = (search rules, (c.in-Ok.ensures.shape.program, c.in-Ok.ensures.size.program))
+run_file-requires g c = (search rules, (search rules, (c.in-Ok.ensures.shape.program, c.in-Ok.ensures.size.program)))
