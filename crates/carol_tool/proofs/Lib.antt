@@ -9,6 +9,7 @@ pub mod Stepped
 pub mod Audited
 pub mod Genuine
 pub mod Played
+pub mod Ran
 pub mod Accorded
 pub mod Checked
 pub mod Firsts

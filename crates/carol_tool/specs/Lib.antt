@@ -7,6 +7,7 @@ pub mod Staged
 pub mod Stages
 pub mod Step
 pub mod Audit
+pub mod Run
 pub mod Says
 pub mod Answer
 pub mod AuditLaws

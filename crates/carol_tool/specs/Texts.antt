@@ -1,5 +1,5 @@
 -- The texts of the statuses, each ended by a line feed. With Ok a command says a text of its own,
--- `check` the accords and `step` a report, and with Refused and Undecided a verdict; with WriteFault a
+-- `check` the accords, `step` and `run` a report, and with Refused and Undecided a verdict; with WriteFault a
 -- part of another text was written.
 -- With Ok and FalseTranscript `audit` says what it found.
 use Rattle.std.specs.Prelude.{List, ℕ, ◌++◌, codes, decimal}
@@ -47,6 +47,7 @@ abbrev pub command_word : Command → List ℕ
 command_word command.Audit = codes "audit"
 command_word command.Check = codes "check"
 command_word command.Step = codes "step"
+command_word command.Run = codes "run"
 
 abbrev pub limit_name : TextLimit → List ℕ
 limit_name limit.ProgramBytes = codes "program bytes"

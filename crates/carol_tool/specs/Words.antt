@@ -14,5 +14,6 @@ command_of [] = None
 command_of (word ∷ []) =
     if bytes_eq word (codes "audit") then Some command.Audit
     else if bytes_eq word (codes "check") then Some command.Check
-    else if bytes_eq word (codes "step") then Some command.Step else None
+    else if bytes_eq word (codes "step") then Some command.Step
+    else if bytes_eq word (codes "run") then Some command.Run else None
 command_of (word ∷ more) = None

@@ -10,6 +10,7 @@ use super::audit::audit;
 use super::check::check;
 use super::command::{Command, command_of};
 use super::reply::{Reply, Stop};
+use super::run::run;
 use super::status::Status;
 use super::step::step;
 use carol_outer::{Gate, Sink, Source, read_all, write_all};
@@ -40,22 +41,23 @@ pub fn plain<R: Threads + Sync, S: Source, K: Sink>(
     ensures write_fault { result ≡ Status.WriteFault
         → Rose (K.faults sink.old) (K.faults sink.new) }
 {
-    match reply(rt, alloc, words, source) {
-        Ok(reply) => say(sink, reply.status, &reply.text),
-        Err(stop) => say(sink, stop.status(), stop.text()),
-    }
+    answer(sink, &reply(rt, alloc, words, source))
 }
 
 /// Does what the words of a command line say: reads the source, writes one text to the sink and
 /// answers the status. `ReadFault` and `WriteFault` come only where the source or the sink counted
-/// a fault.
+/// a fault. For the single word `run` it may wait: the threads that run the scene pass the gate
+/// after each of their steps. What is told then is a history that the accepted program can make,
+/// whatever the order of the threads' steps. Up to each of its events, each live query stands in its
+/// guard's relation to the global store, the invariant is true of it, the history is that of one
+/// store read in order, replicas that hold the same entries are equal, and no session meets a fault.
 pub fn carol<R: Threads + Wait + Sync, S: Source, K: Sink, G: Gate + Sync>(
     rt: &R,
     alloc: Global,
     words: &[Vec<u8>],
     source: &mut S,
     sink: &mut K,
-    _gate: &G,
+    gate: &G,
 ) -> Status
     ensures answered { Answered (texts words.now)
         (end_of (S.left source.old) (S.faults source.old))
@@ -69,7 +71,7 @@ pub fn carol<R: Threads + Wait + Sync, S: Source, K: Sink, G: Gate + Sync>(
         → Rose (K.faults sink.old) (K.faults sink.new) }
 {
     if is_word(words, b"run") {
-        return say(sink, Stop::Usage.status(), Stop::Usage.text());
+        return answer(sink, &run_reply(rt, alloc, source, gate));
     }
     plain(rt, alloc, words, source, sink)
 }
@@ -84,13 +86,14 @@ fn is_word(words: &[Vec<u8>], word: &[u8]) -> bool
     }
 }
 
-// Does what the words say, with what the source gives.
+// Does what the words say, with what the source gives. They aren't the single word `run`.
 fn reply<R: Threads + Sync, S: Source>(
     rt: &R,
     alloc: Global,
     words: &[Vec<u8>],
     source: &mut S,
 ) -> Result<Reply, Stop>
+    requires { texts words.now ≢ codes "run" ∷ [] }
     ensures { let answer = outcome_answer result in
         Meant (texts words.now)
         (end_of (S.left source.old) (S.faults source.old))
@@ -109,13 +112,45 @@ fn command_reply<R: Threads + Sync>(
     command: Command,
     bytes: &[u8],
 ) -> Result<Reply, AllocError>
-    requires { length bytes.now ≤ most_text_bytes }
+    requires plain { command ≢ Command.Run }
+    requires short { length bytes.now ≤ most_text_bytes }
     ensures { IfOk result (λ reply. IsReply command bytes.now (answer_of reply)) }
 {
     match command {
         Command::Audit => audit(rt, alloc, bytes),
         Command::Check => check(rt, alloc, bytes),
         Command::Step => step(rt, alloc, bytes),
+        Command::Run => unreachable!(),
+    }
+}
+
+// Does what the single word `run` says, with what the source gives.
+fn run_reply<R: Threads + Wait + Sync, S: Source, G: Gate + Sync>(
+    rt: &R,
+    alloc: Global,
+    source: &mut S,
+    gate: &G,
+) -> Result<Reply, Stop>
+    ensures { let answer = outcome_answer result in
+        Meant (codes "run" ∷ [])
+        (end_of (S.left source.old) (S.faults source.old))
+        (end_of (S.left source.new) (S.faults source.new))
+        answer.0 answer.1 }
+{
+    let text = read_all(alloc, source, MOST_TEXT_BYTES)?;
+    Ok(run(rt, alloc, &text, gate)?)
+}
+
+// Writes the text of what a command came to, and answers its status unless writing failed.
+fn answer<K: Sink>(sink: &mut K, outcome: &Result<Reply, Stop>) -> Status
+    ensures { let answer = outcome_answer outcome.now in
+        Wrote (end_of (K.taken sink.old) (K.faults sink.old))
+        (end_of (K.taken sink.new) (K.faults sink.new))
+        answer.0 answer.1 result }
+{
+    match outcome {
+        Ok(reply) => say(sink, reply.status, &reply.text),
+        Err(stop) => say(sink, stop.status(), stop.text()),
     }
 }
 

@@ -13,6 +13,8 @@ pub enum Command {
     Check,
     /// To carry out the script of a file.
     Step,
+    /// To run the scene of a file in threads.
+    Run,
 }
 
 impl fmt::Display for Command {
@@ -23,6 +25,7 @@ impl fmt::Display for Command {
             Command::Audit => write!(f, "audit"),
             Command::Check => write!(f, "check"),
             Command::Step => write!(f, "step"),
+            Command::Run => write!(f, "run"),
         }
     }
 }
@@ -49,6 +52,9 @@ fn command_named(word: &[u8]) -> Option<Command>
     }
     if word == b"step".as_slice() {
         return Some(Command::Step);
+    }
+    if word == b"run".as_slice() {
+        return Some(Command::Run);
     }
     None
 }

@@ -11,6 +11,9 @@ mod check_tests;
 mod command;
 mod laws;
 mod reply;
+mod run;
+#[cfg(test)]
+mod run_tests;
 mod staged;
 mod status;
 mod step;

@@ -1,5 +1,5 @@
 use super::{Status, carol};
-use carol_outer::{MemorySink, MemorySource, OpenGate};
+use carol_outer::{Gate, MemorySink, MemorySource, OpenGate};
 use std::alloc::{AllocError, Global};
 use std::sync::Wait;
 use std::test::Fail;
@@ -185,6 +185,27 @@ pub(crate) fn call<R: Threads + Wait + Sync + AllocGlobal>(
     room: usize,
     failing_writes: &[u64],
 ) -> Result<Answer, Fail> {
+    call_through(
+        rt,
+        word,
+        parts,
+        failing_reads,
+        room,
+        failing_writes,
+        &OpenGate,
+    )
+}
+
+/// The same with this gate.
+pub(crate) fn call_through<R: Threads + Wait + Sync + AllocGlobal, G: Gate + Sync>(
+    rt: &R,
+    word: &[u8],
+    parts: &[&[u8]],
+    failing_reads: &[u64],
+    room: usize,
+    failing_writes: &[u64],
+    gate: &G,
+) -> Result<Answer, Fail> {
     let alloc = rt.alloc();
     let mut bytes = Vec::new(alloc);
     for part in parts {
@@ -193,7 +214,7 @@ pub(crate) fn call<R: Threads + Wait + Sync + AllocGlobal>(
     let words = vec![in alloc; Vec::from_slice(alloc, word)?]?;
     let mut source = MemorySource::new(bytes, 100, Vec::from_slice(alloc, failing_reads)?);
     let mut sink = MemorySink::new(alloc, room, 5, Vec::from_slice(alloc, failing_writes)?)?;
-    let status = carol(rt, alloc, &words, &mut source, &mut sink, &OpenGate);
+    let status = carol(rt, alloc, &words, &mut source, &mut sink, gate);
     Ok(Answer { status, sink })
 }
 
@@ -304,7 +325,7 @@ fn tells_a_limit(rt: HostRuntime) -> Result<(), Fail> {
 
 #[test]
 fn refuses_other_words(rt: HostRuntime) -> Result<(), Fail> {
-    let answer = call(&rt, b"run", &[PLAIN], &[0], 4096, &[])?;
+    let answer = call(&rt, b"walk", &[PLAIN], &[0], 4096, &[])?;
     assert_eq!(rt; answer.status, Status::Usage);
     assert_eq!(rt;
         answer.sink.taken(),

@@ -1,0 +1,19 @@
+//! How threads run the sessions of a scene: desks, at which a session takes its steps, and the
+//! roster, from which workers take the sessions.
+#![tactic(auto)]
+
+mod desk;
+mod finish;
+mod roster;
+mod rule;
+mod running;
+mod second;
+mod serving;
+mod tally;
+mod threads;
+
+pub use desk::{Desk, LockedDesk, OwnDesk};
+pub use roster::{Roster, Taker, TakerList};
+pub use running::run_scene;
+pub use serving::{Served, serve};
+pub use tally::{Answer, Last};
