@@ -72,11 +72,14 @@ handed_stage tree scene (Some bad) program (Told reply) faultless ruled named (i
   wrong = refl;
   told = h.rested;
 })))
-handed_stage tree scene None program (Ready kept given) faultless ruled named h = (record {
-  program = program;
-  stands = stands tree scene program faultless ruled named h.none;
-  is_kept = h.rested.0;
-}, h.rested.1 ∙ sym (ap (λ (p : Program). scene_of (record { program = p; accords = kept.accords }) scene) h.rested.0.same))
+handed_stage tree scene None program (Ready kept given) faultless ruled named h = (
+  record {
+    program = program;
+    stands = stands tree scene program faultless ruled named h.none;
+    is_kept = h.rested.0;
+  },
+  h.rested.1 ∙ sym (ap (λ (p : Program). scene_of (record { program = p; accords = kept.accords }) scene) h.rested.0.same),
+)
 handed_stage tree scene (Some bad) program (Ready kept given) faultless ruled named h = absurd h.rested
 
 -- names and scene were asked of this program

@@ -301,7 +301,14 @@ fn reports_histories(rt: HostRuntime) -> Result<(), Fail> {
     for rows in [GRANTED.as_slice(), UNGUARDED.as_slice()] {
         for (program, (replicas, tries), sessions, script, report) in rows {
             let scene = head(rt.alloc(), *replicas, *tries)?;
-            let parts = [*program, scene.as_bytes(), *sessions, b"end script ", *script, LAST];
+            let parts = [
+                *program,
+                scene.as_bytes(),
+                *sessions,
+                b"end script ",
+                *script,
+                LAST,
+            ];
             let answer = call(&rt, b"step", &parts, &[], 4096, &[])?;
             assert_eq!(rt; answer.status, Status::Ok);
             assert_eq!(rt; answer.sink.taken(), *report);
@@ -331,7 +338,14 @@ fn tells_the_first_bad_statement(rt: HostRuntime) -> Result<(), Fail> {
     ];
     let scene = head(rt.alloc(), 2, 1)?;
     for (sessions, script, output) in &rows {
-        let parts = [BANK, scene.as_bytes(), *sessions, b"end script ", *script, LAST];
+        let parts = [
+            BANK,
+            scene.as_bytes(),
+            *sessions,
+            b"end script ",
+            *script,
+            LAST,
+        ];
         let answer = call(&rt, b"step", &parts, &[], 4096, &[])?;
         assert_eq!(rt; answer.status, Status::Script);
         assert_eq!(rt; answer.sink.taken(), *output);
@@ -386,7 +400,14 @@ fn reads_no_part_of_an_input(rt: HostRuntime) -> Result<(), Fail> {
     let alloc = rt.alloc();
     let scene = head(alloc, 2, 2)?;
     let mut whole = Vec::new(alloc);
-    for part in [BANK, scene.as_bytes(), SESSIONS, b"end\nscript\n", FULL, b"\nend\n"] {
+    for part in [
+        BANK,
+        scene.as_bytes(),
+        SESSIONS,
+        b"end\nscript\n",
+        FULL,
+        b"\nend\n",
+    ] {
         whole.extend_from_slice(part)?;
     }
     let last = whole.len() - 1;
