@@ -214,9 +214,19 @@ fn stops_where_the_history_is_full(rt: HostRuntime) -> Result<(), Fail> {
 fn takes_a_program_and_a_scene_alone(rt: HostRuntime) -> Result<(), Fail> {
     let head = head(rt.alloc(), 2, 1)?;
     let rows: [[&[u8]; 4]; 4] = [
-        [b"program\n", b"counter c = 0;\n", b"invariant true;\n", b"end\n"],
+        [
+            b"program\n",
+            b"counter c = 0;\n",
+            b"invariant true;\n",
+            b"end\n",
+        ],
         [b"program\n", b"invariant x >= 0;\n", b"end\n", b""],
-        [BANK, head.as_bytes(), TAKES_AND_GIVES, b"script\ngo 0;\nend\n"],
+        [
+            BANK,
+            head.as_bytes(),
+            TAKES_AND_GIVES,
+            b"script\ngo 0;\nend\n",
+        ],
         [BANK, head.as_bytes(), TAKES_AND_GIVES, b"transcript\n"],
     ];
     for parts in &rows {
