@@ -126,6 +126,7 @@ fn collect_bounded<C: Collector>(
     kind: CellKind,
     part: &Part,
 ) -> Result<(), AllocError>
+    requires needs { C.needs }
     requires rules { AreRules (rules_in at.of.program.now) }
     requires room { HasRoom (rules_in at.of.program.now) (point_at at) }
     requires light { weight part.now.amount < amount_limit }
@@ -153,6 +154,7 @@ fn collect_amount<C: Collector>(
     kind: Option<CellKind>,
     part: &Part,
 ) -> Result<(), AllocError>
+    requires needs { C.needs }
     requires rules { AreRules (rules_in at.of.program.now) }
     requires room { HasRoom (rules_in at.of.program.now) (point_at at) }
     requires light { weight part.now.amount < amount_limit }
@@ -181,6 +183,7 @@ fn collect_amounts<C: Collector>(
     number: u32,
     parts: &[Part],
 ) -> Result<(), AllocError>
+    requires needs { C.needs }
     requires rules { AreRules (rules_in at.of.program.now) }
     requires room { HasRoom (rules_in at.of.program.now) (point_at at) }
     requires parts { AreSmallParts parts.now }
@@ -207,6 +210,7 @@ fn collect_issue<C: Collector>(
     number: u32,
     parts: &[Part],
 ) -> Result<(), AllocError>
+    requires needs { C.needs }
     requires rules { AreRules (rules_in at.of.program.now) }
     requires room { HasRoom (rules_in at.of.program.now) (point_at at) }
     requires parts { AreSmallParts parts.now }
@@ -231,6 +235,7 @@ fn collect_result<C: Collector>(
     number: u32,
     value: &Term,
 ) -> Result<(), AllocError>
+    requires needs { C.needs }
     requires rules { AreRules (rules_in at.of.program.now) }
     requires ready { IsReady (rules_in at.of.program.now) (point_at at)
         (body.Return number value.now) }
@@ -256,6 +261,7 @@ fn walk_body<C: Collector>(
     standing: Standing,
     body: &Step,
 ) -> Result<(), AllocError>
+    requires needs { C.needs }
     requires rules { AreRules (rules_in of.program.now) }
     requires ready { IsReady (rules_in of.program.now) (point_of of standing) (body_of body.now) }
     ensures { OnOk result (Passes C.holds collector.old collector.new
@@ -318,6 +324,7 @@ pub fn walk<C: Collector>(
     number: u32,
     collector: &mut C,
 ) -> Result<(), AllocError>
+    requires needs { C.needs }
     requires rules { AreRules (rules_in program.now) }
     requires op { let p = rules_in program.now in
         IsOpOver p.shape (length p.guards) (op_rules op.now) }

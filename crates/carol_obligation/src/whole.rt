@@ -15,7 +15,8 @@ pub fn walk_all<C: Collector>(
     program: &Program,
     collector: &mut C,
 ) -> Result<(), AllocError>
-    requires { AreRules (rules_in program.now) }
+    requires needs { C.needs }
+    requires rules { AreRules (rules_in program.now) }
     ensures { OnOk result
         (Passes C.holds collector.old collector.new (obligations_of (rules_in program.now))) }
 {

@@ -1,5 +1,5 @@
 pub mod Lists
 pub mod Judging
-pub mod Scanning
 pub mod Settling
+pub mod Scanning
 pub mod Meaning

@@ -17,7 +17,8 @@ use Rattle.carol_typecheck.proofs.Lists.{all-append, first-append, first_behind}
 
 -- ---- what is found
 
-verdict_rest : (judged rest : List (Place × Claim)) (v : Verdict) → AllByRecursion IsProved judged → IsVerdictOn rest v → IsVerdictOn (judged ++ rest) v
+-- behind proved formulas
+pub verdict_rest : (judged rest : List (Place × Claim)) (v : Verdict) → AllByRecursion IsProved judged → IsVerdictOn rest v → IsVerdictOn (judged ++ rest) v
 verdict_rest judged rest Good proved told = all-append IsProved judged rest proved told
 verdict_rest judged rest (Fails place at) proved told = first_behind _ _ judged rest proved told
 verdict_rest judged rest (Undecided place why) proved told = first_behind _ _ judged rest proved told

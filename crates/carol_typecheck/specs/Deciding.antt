@@ -1,6 +1,7 @@
 -- How far obligations are decided.
-use Rattle.std.specs.Prelude.{◌≡◌, List, [], ◌∷◌, ◌++◌}
+use Rattle.std.specs.Prelude.{◌≡◌, Result, Ok, Err, List, [], ◌∷◌, ◌++◌}
 use Rattle.std.specs.List.{AllByRecursion}
+use Rattle.std.specs.declared.alloc.AllocError.{AllocError}
 use Rattle.carol_formula.specs.Claim.{Claim}
 use Rattle.carol_formula.specs.Tree.{claim_of}
 use Rattle.carol_program.specs.declared.places.Place.{Place}
@@ -19,12 +20,13 @@ AreDecidable list = AllByRecursion (λ o. IsDecidable (claim_of o.formula)) list
 abbrev pub IsJudged : Obligation → Verdict → Type 0
 IsJudged o verdict = IsVerdictOn (owed_of o ∷ []) verdict
 
--- the first of the verdicts that isn't good
-abbrev pub first_of : List Verdict → Verdict
-first_of [] = Good
-first_of (Good ∷ verdicts) = first_of verdicts
-first_of (Fails place at ∷ verdicts) = Fails place at
-first_of (Undecided place why ∷ verdicts) = Undecided place why
+-- the first of the answers that isn't good
+abbrev pub first_of : List (Result Verdict AllocError) → Result Verdict AllocError
+first_of [] = Ok Good
+first_of (Ok Good ∷ answers) = first_of answers
+first_of (Ok (Fails place at) ∷ answers) = Ok (Fails place at)
+first_of (Ok (Undecided place why) ∷ answers) = Ok (Undecided place why)
+first_of (Err e ∷ answers) = Err e
 
 -- all that was taken is proved but for what waits
 pub record AwaitsRest (waiting : List Obligation) (taken : List (Place × Claim)) : Type 0 where

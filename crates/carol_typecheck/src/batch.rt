@@ -1,22 +1,46 @@
-ghost use Rattle.std.specs.Prelude.{◌≡◌, [], ◌∷◌, ◌++◌, IfOk, OnOk};
+ghost use Rattle.std.specs.Prelude.{◌≡◌, ◌≤◌, [], ◌∷◌, ◌++◌, IfOk, OnOk};
 ghost use Rattle.carol_formula.specs.Tree.{claim_of};
 ghost use Rattle.carol_obligation.specs.Budget.{IsDecidable};
 ghost use Rattle.carol_obligation.specs.Listed.{owed_in};
+ghost use Rattle.carol_program.specs.WellFormed.{nodes};
 ghost use Rattle.carol_typecheck.specs.Formulas.{IsVerdictOn};
 
-use crate::judge::{first_of, judge_all};
+use crate::judge::{judge_all, judge_shared};
 use crate::verdict::Verdict;
+use carol_formula::Formula;
 use carol_obligation::Obligation;
 use std::alloc::{AllocError, Global};
 use std::marker::Model;
+use std::thread::Threads;
 
-// How many obligations are decided at a time.
-const MOST_WAITING: usize = 256;
+// How many obligations are decided at a time, and how many nodes their formulas have, about.
+const MOST_WAITING: usize = 1_024;
+
+const MOST_NODES: u32 = 262_144;
+
+// From how many nodes on it is worth a thread to decide them.
+const LEAST_SHARED: u32 = 512;
+
+// How many nodes the formula has.
+fn nodes_in(formula: &Formula) -> u32
+    requires { nodes (claim_of formula.now) ≤ 65535 }
+    ensures { result ≡ nodes (claim_of formula.now) }
+{
+    match formula {
+        Formula::And(one, other) | Formula::Or(one, other) => nodes_in(one.get())
+            + nodes_in(other.get())
+            + 1,
+        Formula::Not(inner) => nodes_in(inner.get()) + 1,
+        _ => 1,
+    }
+}
 
 /// Obligations that wait to be decided, and that can be.
 #[derive(Drop)]
 pub(crate) struct Batch {
     waiting: Vec<Obligation>,
+    // Those of all their formulas, which say only how these are decided.
+    nodes: u32,
 }
 
 impl Model for Batch {
@@ -36,17 +60,19 @@ impl Model for Batch {
 }
 
 impl Batch {
+    /// None that wait.
     pub(crate) fn new(alloc: Global) -> Batch
         ensures { result ≡ [] }
     {
         Batch {
             waiting: Vec::new(alloc),
+            nodes: 0,
         }
     }
 
     /// No more are to be taken before these are decided.
     pub(crate) fn is_full(&self) -> bool {
-        self.waiting.len() >= MOST_WAITING
+        self.waiting.len() >= MOST_WAITING || self.nodes >= MOST_NODES
     }
 
     /// One more.
@@ -54,16 +80,24 @@ impl Batch {
         requires { IsDecidable (claim_of obligation.formula) }
         ensures { OnOk result (self.new ≡ self.old ++ obligation ∷ []) }
     {
+        let nodes = nodes_in(&obligation.formula);
         self.waiting.push(obligation)?;
+        self.nodes = self.nodes.saturating_add(nodes);
         Ok(())
     }
 
-    /// The verdict on all of them.
-    pub(crate) fn verdict(&self, alloc: Global) -> Result<Verdict, AllocError>
+    /// The verdict on all of them, which are shared out where there is enough to do.
+    pub(crate) fn verdict<R: Threads + Sync>(
+        &self,
+        rt: &R,
+        alloc: Global,
+    ) -> Result<Verdict, AllocError>
         ensures { IfOk result (IsVerdictOn (owed_in self.now)) }
     {
-        let verdicts = judge_all(alloc, self.waiting.as_slice())?;
-        Ok(first_of(verdicts))
+        if self.nodes < LEAST_SHARED {
+            return judge_all(alloc, self.waiting.as_slice());
+        }
+        judge_shared(rt, alloc, self.waiting.as_slice())
     }
 
     /// None of them waits any more.
@@ -71,5 +105,6 @@ impl Batch {
         ensures { self.new ≡ [] }
     {
         self.waiting.clear();
+        self.nodes = 0;
     }
 }

@@ -10,20 +10,24 @@ use carol_formula::Formula;
 use carol_obligation::{Collector, Obligation};
 use carol_program::Place;
 use std::alloc::{AllocError, Global};
+use std::thread::Threads;
 
 /// Decides the obligations that it takes, a batch at a time, up to the first that isn't proved.
 #[derive(Drop)]
-pub(crate) struct Decider {
+pub(crate) struct Decider<'a, R: Threads + Sync> {
+    rt: &'a R,
     batch: Batch,
     found: Verdict,
 }
 
-impl Decider {
-    pub(crate) fn new(alloc: Global) -> Decider
+impl<'a, R: Threads + Sync> Decider<'a, R> {
+    /// Nothing is taken yet.
+    pub(crate) fn new(rt: &'a R, alloc: Global) -> Decider<'a, R>
         ensures batch { result.batch ≡ [] }
         ensures found { result.found ≡ Verdict.Good }
     {
         Decider {
+            rt,
             batch: Batch::new(alloc),
             found: Verdict::Good,
         }
@@ -34,19 +38,22 @@ impl Decider {
         ensures { IfOk result (λ v. (taken : List (PlaceOf × Claim))
             → IsFoundSoFar self.found self.batch taken → IsVerdictOn taken v) }
     {
-        let Decider { batch, found } = self;
+        let Decider { rt, batch, found } = self;
         if found.is_good() {
-            batch.verdict(alloc)
+            batch.verdict(rt, alloc)
         } else {
             Ok(found)
         }
     }
 }
 
-impl Collector for Decider {
+impl<'a, R: Threads + Sync> Collector for Decider<'a, R> {
+    ghost use Rattle.std.specs.Thread.{IsSync};
     ghost use Rattle.carol_typecheck.specs.Deciding.{IsFoundSoFar};
 
     ghost holds = { λ decider taken. IsFoundSoFar decider.found decider.batch taken };
+
+    ghost needs = { IsSync R.row };
 
     fn take(&mut self, alloc: Global, place: Place, formula: Formula) -> Result<(), AllocError> {
         if !self.found.is_good() {
@@ -54,7 +61,7 @@ impl Collector for Decider {
         }
         self.batch.push(Obligation { place, formula })?;
         if self.batch.is_full() {
-            self.found = self.batch.verdict(alloc)?;
+            self.found = self.batch.verdict(self.rt, alloc)?;
             self.batch.clear();
         }
         Ok(())

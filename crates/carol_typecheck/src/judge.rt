@@ -1,13 +1,19 @@
 ghost use Rattle.std.specs.Prelude.{◌≡◌, IfOk};
-ghost use Rattle.std.specs.List.{AllZip};
 ghost use Rattle.carol_formula.specs.Tree.{claim_of};
 ghost use Rattle.carol_obligation.specs.Budget.{IsDecidable};
+ghost use Rattle.carol_obligation.specs.Listed.{owed_in};
 ghost use Rattle.carol_typecheck.specs.Deciding.{AreDecidable, IsJudged, first_of};
+ghost use Rattle.carol_typecheck.specs.Formulas.{IsVerdictOn};
 
 use crate::verdict::{MOST_LEAVES, Verdict};
 use carol_decide::{Answer, decide};
 use carol_obligation::Obligation;
+use rayon::prelude::*;
 use std::alloc::{AllocError, Global};
+use std::thread::Threads;
+
+// Into how many pieces obligations are cut at the most.
+const MOST_PIECES: usize = 32;
 
 // The verdict on one formula: it is proved where its denial is refuted.
 fn judge(alloc: Global, obligation: &Obligation) -> Result<Verdict, AllocError>
@@ -22,31 +28,55 @@ fn judge(alloc: Global, obligation: &Obligation) -> Result<Verdict, AllocError>
     }
 }
 
-/// The verdicts on formulas, each by itself.
-pub(crate) fn judge_all(
-    alloc: Global,
-    obligations: &[Obligation],
-) -> Result<Vec<Verdict>, AllocError>
+/// The verdict on all of these formulas, which are decided one after another.
+pub(crate) fn judge_all(alloc: Global, obligations: &[Obligation]) -> Result<Verdict, AllocError>
     requires { AreDecidable obligations.now }
-    ensures { IfOk result (λ v. AllZip IsJudged obligations.now v.items) }
+    ensures { IfOk result (IsVerdictOn (owed_in obligations.now)) }
 {
-    let mut verdicts = Vec::new(alloc);
     let mut left = obligations;
     while let Some((first, more)) = left.split_first() {
-        verdicts.push(judge(alloc, first)?)?;
+        let verdict = judge(alloc, first)?;
+        if !verdict.is_good() {
+            return Ok(verdict);
+        }
         left = more;
     }
-    Ok(verdicts)
+    Ok(Verdict::Good)
 }
 
-/// The first verdict that isn't good.
-pub(crate) fn first_of(verdicts: Vec<Verdict>) -> Verdict
-    ensures { result ≡ first_of verdicts.items }
+/// The same verdict, where the formulas are cut into pieces that are decided side by side. What no
+/// thread can be started for is decided by the caller.
+pub(crate) fn judge_shared<R: Threads + Sync>(
+    rt: &R,
+    alloc: Global,
+    obligations: &[Obligation],
+) -> Result<Verdict, AllocError>
+    requires { AreDecidable obligations.now }
+    ensures { IfOk result (IsVerdictOn (owed_in obligations.now)) }
 {
-    for verdict in verdicts {
-        if !verdict.is_good() {
-            return verdict;
+    let size = obligations.len() / MOST_PIECES + 1;
+    let answers = obligations
+        .par_chunks(size)
+        .with_min_len(1)
+        .map(
+            |piece: &[Obligation]| -> Result<Verdict, AllocError>
+                requires { AreDecidable piece.now }
+                ensures { IfOk result (IsVerdictOn (owed_in piece.now)) }
+            { judge_all(alloc, piece) },
+        )
+        .collect::<Vec<_>>(rt, alloc)?;
+    first_of(answers)
+}
+
+// The first of the answers that isn't good.
+fn first_of(answers: Vec<Result<Verdict, AllocError>>) -> Result<Verdict, AllocError>
+    ensures { result ≡ first_of answers.items }
+{
+    for answer in answers {
+        match answer {
+            Ok(Verdict::Good) => {}
+            other => return other,
         }
     }
-    Verdict::Good
+    Ok(Verdict::Good)
 }

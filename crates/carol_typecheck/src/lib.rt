@@ -31,7 +31,7 @@ pub use verdict::{MOST_LEAVES, Verdict};
 /// and where the decision ends for a reason before it finds either, the answer is `Undecided`. The
 /// only error is want of memory.
 pub fn typecheck<R: Threads + Sync>(
-    _rt: &R,
+    rt: &R,
     alloc: Global,
     program: &Program,
 ) -> Result<Verdict, AllocError>
@@ -39,7 +39,7 @@ pub fn typecheck<R: Threads + Sync>(
     ensures verdict { IfOk result (IsVerdictFor (rules_in program.now)) }
     ensures fails { IfOk result (λ v. IsFailure v → ¬ AreGood (rules_in program.now)) }
 {
-    let mut decider = Decider::new(alloc);
+    let mut decider = Decider::new(rt, alloc);
     walk_all(alloc, program, &mut decider)?;
     decider.verdict(alloc)
 }

@@ -19,7 +19,7 @@ pub enum Verdict {
 }
 
 impl Verdict {
-    // Nothing stands against the program.
+    /// Nothing stands against the program.
     pub(crate) fn is_good(&self) -> bool
         ensures { IsTrue result ↔ (self.now ≡ Verdict.Good) }
     {

@@ -67,7 +67,7 @@ walk_body-requires g t c κs within =
     in let first = ready_first p (point_of c.args.of c.loop-step.standing) c.in-Branch.number (claim_of c.in-Branch.test) (body_of c.get.result.now) (body_of c.in-Branch.no) ready
     in let smaller : size-Step c.get.result.now < size-Step c.args.body.now = omega (arith, less, c.loop-step.invariant.part)
     in let same = c.in_ok-first-in-Branch-2.ensures ∙ ap (λ s. behind_test (point_of c.args.of s) (claim_of c.in-Branch.test) true) c.in_ok-first-in-Branch.ensures
-    in (search (rules, the_lemmas, smaller), (within, (c.requires.rules, subst (λ x. IsReady p x (body_of c.get.result.now)) (sym same) first)))
+    in (search (rules, the_lemmas, smaller), (within, (c.requires.needs, (c.requires.rules, subst (λ x. IsReady p x (body_of c.get.result.now)) (sym same) first))))
 
 pub loop-step-preserved : goal.loop-step-preserved
 loop-step-preserved g t c =

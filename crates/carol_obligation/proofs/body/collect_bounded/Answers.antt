@@ -7,8 +7,8 @@ use Rattle.carol_obligation.proofs.Gathering.{passed_as}
 use Rattle.carol_obligation.proofs.Sizes.{owed_decidable}
 use Rattle.carol_obligation.proofs.body.collect_bounded.Goals as goal
 
-pub take-requires : goal.take-requires
-take-requires g c =
+pub take-requires-clause-formula : goal.take-requires-clause-formula
+take-requires-clause-formula g c =
     let op = op_rules c.args.at.of.op.now in
     let room = c.requires.room in
     subst IsDecidable (sym (c.in_ok-formula.ensures op c.args.atom))

@@ -16,8 +16,8 @@ result_owed-requires-clause-value g c =
     let p = rules_in c.args.at.of.program.now in
     light_term (variables_in (setting_of p.shape (length p.guards) (op_rules c.args.at.of.op.now)) c.requires.ready.slots) c.args.value.now c.requires.ready.fit
 
-pub take-requires : goal.take-requires
-take-requires g c =
+pub take-requires-clause-formula : goal.take-requires-clause-formula
+take-requires-clause-formula g c =
     let p = rules_in c.args.at.of.program.now in
     let op = op_rules c.args.at.of.op.now in
     let room = ready_room p (point_at c.args.at) (Return c.args.number c.args.value.now) c.requires.ready in

@@ -1,6 +1,10 @@
 use Rattle.carol_typecheck.proofs.Scanning.{verdict_as}
 use Rattle.carol_typecheck.proofs.batch.Batch.verdict.Goals as goal
 
+pub returns-then : goal.returns-then
+returns-then g c =
+    verdict_as c.args.self.now c.self.inside.waiting.items c.as_slice.result.now c.judge_all.result c.as_slice.ensures.value c.self.view_is c.judge_all.ensures
+
 pub returns : goal.returns
-returns c =
-    verdict_as c.args.self.now c.self.inside.waiting.items c.as_slice.result.now c.in_ok-verdicts.verdicts.items c.first_of.result c.as_slice.ensures.value c.self.view_is c.in_ok-verdicts.ensures c.first_of.ensures
+returns g c =
+    verdict_as c.args.self.now c.self.inside.waiting.items c.as_slice-2.result.now c.judge_shared.result c.as_slice-2.ensures.value c.self.view_is c.judge_shared.ensures
