@@ -36,7 +36,7 @@ impl<'a, R: Threads + Sync> Decider<'a, R> {
     /// The verdict on all that was taken.
     pub(crate) fn verdict(self, alloc: Global) -> Result<Verdict, AllocError>
         ensures { IfOk result (λ v. (taken : List (PlaceOf × Claim))
-            → IsFoundSoFar self.found self.batch taken → IsVerdictOn taken v) }
+            → IsFoundSoFar self.entry.found self.entry.batch taken → IsVerdictOn taken v) }
     {
         let Decider { rt, batch, found } = self;
         if found.is_good() {

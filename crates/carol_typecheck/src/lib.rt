@@ -2,8 +2,9 @@
 //! place at which something is asked of an operation, up to the first that isn't proved.
 //!
 //! The formulas come from the walk over the program, and are decided in batches, so that memory
-//! grows with the largest of them and not with their number. `specs/` says what a verdict means:
-//! `Formulas` of formulas alone, `Readings` of what the operations may do.
+//! grows with the largest of them and not with their number. A batch with enough to do is shared
+//! out among threads, and the answers of its pieces are looked at in order. `specs/` says what a
+//! verdict means: `Formulas` of formulas alone, `Readings` of what the operations may do.
 #![tactic(auto)]
 
 mod batch;
@@ -29,7 +30,7 @@ pub use verdict::{MOST_LEAVES, Verdict};
 /// names the first place that isn't proved. `Good` says that every operation is good, and `Fails`
 /// never comes where each is. The formula of a place is decided in at most `MOST_LEAVES` turns,
 /// and where the decision ends for a reason before it finds either, the answer is `Undecided`. The
-/// only error is want of memory.
+/// only error is want of memory. None of this depends on how many threads there are.
 pub fn typecheck<R: Threads + Sync>(
     rt: &R,
     alloc: Global,
