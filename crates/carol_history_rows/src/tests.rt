@@ -1,11 +1,12 @@
-ghost use Rattle.std.specs.Prelude.{◌≤◌, length, IfOk};
+ghost use Rattle.std.specs.Prelude.{◌≤◌, length, reverse, IfOk};
 ghost use Rattle.carol_program.specs.Rules.{rules_in};
 ghost use Rattle.carol_program.specs.Scenes.{IsValidScene};
+ghost use Rattle.carol_history_decided.specs.Shorts.{IsShortRun};
 
 use carol_accept::accept;
-use carol_event::{Event, parse_event};
+use carol_event::{Event, parse_event, print_event};
 use carol_history::MOST_EVENTS;
-use carol_history_decided::first_illegal;
+use carol_history_decided::{first_illegal, forced};
 use carol_parse::parse;
 use carol_program::Scene;
 use carol_reading::Accepted;
@@ -303,6 +304,43 @@ fn events(alloc: Global, lines: &str, kept: usize, last: &str) -> Result<Vec<Eve
     Ok(events)
 }
 
+// Whose event it is; none for a script's.
+fn actor(event: &Event) -> Option<u32> {
+    match event {
+        Event::Grant { session, .. } => Some(*session),
+        Event::Query { session, .. } => Some(*session),
+        Event::Issue { session, .. } => Some(*session),
+        Event::Release { session } => Some(*session),
+        Event::Return { session, .. } => Some(*session),
+        Event::Refuse { session, .. } => Some(*session),
+        Event::Deliver { .. } => None,
+        Event::Cut { .. } => None,
+        Event::Join { .. } => None,
+    }
+}
+
+// The lines of the events, those of sessions as the sessions are to go on.
+fn told(
+    alloc: Global,
+    accepted: &Accepted,
+    scene: &Scene,
+    events: &[Event],
+) -> Result<Vec<u8>, AllocError>
+    requires { IsShortRun (rules_in accepted.now.program) scene.now (reverse events.now) }
+{
+    let mut lines = Vec::new(alloc);
+    for (i, event) in events.iter().enumerate() {
+        let Some(session) = actor(event) else {
+            print_event(event, &mut lines)?;
+            continue;
+        };
+        if let Some(next) = forced(alloc, accepted, scene, session, &events[..i])? {
+            print_event(&next, &mut lines)?;
+        }
+    }
+    Ok(lines)
+}
+
 #[test]
 fn worked_histories_are_runs(rt: HostRuntime) -> Result<(), Fail> {
     let alloc = rt.alloc();
@@ -320,11 +358,13 @@ fn worked_histories_are_runs(rt: HostRuntime) -> Result<(), Fail> {
     ] {
         let (accepted, scene) = stage(&rt, alloc, program, head, sessions)?;
         let events = events(alloc, lines, 100, "")?;
-        assert_eq!(rt;
-            first_illegal(alloc, &accepted, &scene, &events)?,
-            None,
-            "{lines}"
-        );
+        let illegal = first_illegal(alloc, &accepted, &scene, &events)?;
+        assert_eq!(rt; illegal, None, "{lines}");
+        if illegal.is_none() {
+            let told = told(alloc, &accepted, &scene, &events)?;
+            let text = format!(in alloc; "{lines}\n")?;
+            assert_eq!(rt; told.as_slice(), text.as_bytes(), "{lines}");
+        }
     }
     Ok(())
 }
