@@ -319,8 +319,8 @@ fn actor(event: &Event) -> Option<u32> {
     }
 }
 
-// The lines of the events, those of sessions as the sessions are to go on.
-fn told(
+// The lines of the events, in which each session makes the event that it is to go on with.
+fn forced_lines(
     alloc: Global,
     accepted: &Accepted,
     scene: &Scene,
@@ -359,12 +359,10 @@ fn worked_histories_are_runs(rt: HostRuntime) -> Result<(), Fail> {
         let (accepted, scene) = stage(&rt, alloc, program, head, sessions)?;
         let events = events(alloc, lines, 100, "")?;
         let illegal = first_illegal(alloc, &accepted, &scene, &events)?;
-        assert_eq!(rt; illegal, None, "{lines}");
-        if illegal.is_none() {
-            let told = told(alloc, &accepted, &scene, &events)?;
-            let text = format!(in alloc; "{lines}\n")?;
-            assert_eq!(rt; told.as_slice(), text.as_bytes(), "{lines}");
-        }
+        assert!(rt; illegal.is_none(), "{illegal:?}: {lines}");
+        let told = forced_lines(alloc, &accepted, &scene, &events)?;
+        let text = format!(in alloc; "{lines}\n")?;
+        assert_eq!(rt; told.as_slice(), text.as_bytes(), "{lines}");
     }
     Ok(())
 }
