@@ -195,7 +195,7 @@ module _ (p : Rules) (scene : Scene) (s : ℕ) (past : List Event) where
     pub none_barred : IsFirstBar p s e None past → (t g : ℕ) → MayRefuseBarred p scene s t g past → ⊥
     none_barred free t g may = may.barring (subst (Admits p g) (sym (barred_effect t g may)) (free.each t g may.other may.live))
 
-    pub barred_from : (t g : ℕ) → IsFirstBar p s e (Some (t, g)) past → MayRefuseBarred p scene s t g past
+    barred_from : (t g : ℕ) → IsFirstBar p s e (Some (t, g)) past → MayRefuseBarred p scene s t g past
     barred_from t g bar = record {
       effect = e;
       next = (is.marks (Issued e)).1 refl;

@@ -29,7 +29,7 @@ short_before p scene events i short =
       few = omega (arith, whole.few, length-append later (reverse (take i events)));
     }
 
--- and so are they up to each event
+-- so are they up to each event, that one among them
 pub short_up_to : (p : Rules) (scene : Scene) (events : List Event) (i : ℕ) (event : Event) → IsShortRun p scene (reverse events) → i < length events → event ≡ get_or events i event → IsShortRun p scene (event ∷ reverse (take i events))
 short_up_to p scene events i event short low at =
     subst (IsShortRun p scene) (reverse_more events i event low at) (short_before p scene events (i + 1) short)
