@@ -12,13 +12,14 @@ use Rattle.carol_event.specs.declared.event.Cause.TheVariants.{Barred}
 use Rattle.carol_event.specs.declared.event.Event.{Event}
 use Rattle.carol_event.specs.declared.event.Event.TheVariants.{Refuse}
 use Rattle.carol_history.specs.Acts.{Next, is_live}
+use Rattle.carol_history.specs.Forced.{IsFetch}
 use Rattle.carol_history.specs.Journals.{effect_at, is_held, journal, local}
 use Rattle.carol_history.specs.Legal.{Admits, IsSettled, Lacks, MayGrant, MayIssue, MayQuery, MayRefuseBarred, MayRefuseBehind}
 use Rattle.carol_history.specs.Links.{is_linked}
 use Rattle.carol_history.proofs.Single.{forced_is_single}
 use Rattle.carol_machine.specs.declared.wish.Wish.{Wish}
 use Rattle.carol_machine.specs.declared.wish.Wish.TheVariants as wish
-use Rattle.carol_history_decided.specs.Firsts.{IsFirstBar, IsFirstUnsettled, IsOutOfReach, IsUnsettled}
+use Rattle.carol_history_decided.specs.Firsts.{IsFirstBar, IsFirstHolder, IsFirstUnsettled, IsHolder, IsOutOfReach, IsUnsettled}
 use Rattle.carol_history_decided.specs.Wishes.{IsHome, IsWish}
 
 clash : true ≡ false → ⊥
@@ -30,6 +31,14 @@ refuted wrong = (λ e. absurd (clash (sym e)), λ x. absurd (wrong x))
 
 nothing : {A : Type 0} (a : A) → Some a ≡ None → ⊥
 nothing a e = cc
+
+-- an entry is out of reach just where no replica that is linked holds it
+pub holder_decided : (scene : Scene) (replica entry : ℕ) (past : List Event) (first : Option ℕ) → IsFirstHolder scene replica entry first past → (first ≡ None) ↔ IsOutOfReach scene replica entry past
+holder_decided scene replica entry past None nowhere = (λ none. nowhere, λ all. refl)
+holder_decided scene replica entry past (Some source) holder = (
+  λ none. absurd (nothing source none),
+  λ all. absurd (clash (sym holder.held ∙ all source holder.from holder.linked)),
+)
 
 -- what is so just where there is nothing is so just where the test says so
 pub by_none : {A : Type 0} {X : Type 0} (found : Option A) (b : Bool) → is_some found ≡ not b → (found ≡ None) ↔ X → (b ≡ true) ↔ X
@@ -86,7 +95,7 @@ module _ (p : Rules) (scene : Scene) (s : ℕ) (past : List Event) where
       here : home ≡ next.way.plan.replica
       here = at next.way.plan next.way.planned
 
-      grant_from : IsFirstUnsettled p scene home g None past → MayGrant p scene s g past
+      pub grant_from : IsFirstUnsettled p scene home g None past → MayGrant p scene s g past
       grant_from all = record {
         store = p.initial;
         next = next;
@@ -108,11 +117,22 @@ module _ (p : Rules) (scene : Scene) (s : ℕ) (past : List Event) where
         lowest = λ j below. subst (λ r. IsSettled p scene r g j past) here (one.lowest j below);
       }
 
-      behind_from : (i : ℕ) → IsUnsettled p scene home g i past → IsOutOfReach scene home i past → MayRefuseBehind p scene s i past
+      pub behind_from : (i : ℕ) → IsUnsettled p scene home g i past → IsOutOfReach scene home i past → MayRefuseBehind p scene s i past
       unfolding lacks_from
       behind_from i one nowhere = record {
         missing = lacks_from i one;
         nowhere = λ r inside. subst (λ n. is_linked r n past ≡ true → is_held scene.sessions r i past ≡ false) here (nowhere r inside);
+      }
+
+      pub fetch_from : (i : ℕ) → IsUnsettled p scene home g i past → (source : ℕ) → IsHolder scene home i source past → IsFetch p scene s source home i past
+      unfolding lacks_from
+      fetch_from i one source holder = record {
+        missing = lacks_from i one;
+        home = here;
+        from = holder.from;
+        linked = holder.linked;
+        held = holder.held;
+        lowest = holder.lowest;
       }
 
     -- what is missing is missing at home

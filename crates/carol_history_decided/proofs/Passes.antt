@@ -13,23 +13,23 @@ reverse_more xs i x low at =
     ap reverse (take_more xs i x low) ∙ reverse-append (take i xs) (get_or xs i x ∷ [])
     ∙ ap (λ y. y ∷ reverse (take i xs)) (sym at)
 
--- the items behind it come later
-reverse_parts : {X : Type 0} (xs : List X) (i : ℕ) (x : X) → i < length xs → x ≡ get_or xs i x → reverse xs ≡ reverse (drop (i + 1) xs) ++ (x ∷ reverse (take i xs))
-reverse_parts xs i x low at =
-    ap reverse (sym (take-append-drop (i + 1) xs)) ∙ reverse-append (take (i + 1) xs) (drop (i + 1) xs)
-    ∙ ap (λ ys. reverse (drop (i + 1) xs) ++ ys) (reverse_more xs i x low at)
-
 run_before : (p : Rules) (scene : Scene) (later past : List Event) → Run p scene (later ++ past) → Run p scene past
 run_before p scene [] past run = run
 run_before p scene (event ∷ later) past run = run_before p scene later past run.1
 
--- up to each event the history is one
-pub short_up_to : (p : Rules) (scene : Scene) (events : List Event) (i : ℕ) (event : Event) → IsShortRun p scene (reverse events) → i < length events → event ≡ get_or events i event → IsShortRun p scene (event ∷ reverse (take i events))
-short_up_to p scene events i event short low at =
-    let later = reverse (drop (i + 1) events)
-    in let whole : IsShortRun p scene (later ++ (event ∷ reverse (take i events))) = subst (IsShortRun p scene) (reverse_parts events i event low at) short
+-- the first events of a short history are one
+pub short_before : (p : Rules) (scene : Scene) (events : List Event) (i : ℕ) → IsShortRun p scene (reverse events) → IsShortRun p scene (reverse (take i events))
+short_before p scene events i short =
+    let later = reverse (drop i events)
+    in let parts : reverse events ≡ later ++ reverse (take i events) = ap reverse (sym (take-append-drop i events)) ∙ reverse-append (take i events) (drop i events)
+    in let whole : IsShortRun p scene (later ++ reverse (take i events)) = subst (IsShortRun p scene) parts short
     in record {
       valid = short.valid;
-      run = run_before p scene later (event ∷ reverse (take i events)) whole.run;
-      few = omega (arith, whole.few, length-append later (event ∷ reverse (take i events)));
+      run = run_before p scene later (reverse (take i events)) whole.run;
+      few = omega (arith, whole.few, length-append later (reverse (take i events)));
     }
+
+-- so are they up to each event, that one among them
+pub short_up_to : (p : Rules) (scene : Scene) (events : List Event) (i : ℕ) (event : Event) → IsShortRun p scene (reverse events) → i < length events → event ≡ get_or events i event → IsShortRun p scene (event ∷ reverse (take i events))
+short_up_to p scene events i event short low at =
+    subst (IsShortRun p scene) (reverse_more events i event low at) (short_before p scene events (i + 1) short)

@@ -41,7 +41,7 @@ few_commands p scene valid session plan at = omega (arith, few_here scene.sessio
 pub no_wish : (p : Rules) (scene : Scene) (session : ℕ) (past : List Event) → slice_get scene.sessions session ≡ None → IsWish p scene session wish.Finished past
 no_wish p scene session past none = record {
   marks = λ mark. (λ next. no_plan next.way.plan (sym none ∙ next.way.planned), λ suits. absurd suits);
-  fit = tt;
+  fit = λ way. no_plan way.plan (sym none ∙ way.planned);
 }
 
 module _ (p : Rules) (scene : Scene) (session : ℕ) (past : List Event) (m : SessionState) (one : IsMachineOf scene session past m) where
@@ -88,10 +88,16 @@ module _ (p : Rules) (scene : Scene) (session : ℕ) (past : List Event) (m : Se
   marks_of : (w : Wish) → IsNextWish p m.plan m.tries (acts session past) w → (mark : Mark) → Next p scene session mark past ↔ SuitsWish p.shape w mark
   marks_of w n mark = (suits_of w n mark, next_of w n mark)
 
-  -- where all commands are done, nothing is next
+  -- where all commands are done, none is under way
+  none_under_way : slice_get m.plan.commands (place m.tries (acts session past)).command ≡ None → UnderWay scene session past → ⊥
+  none_under_way none way =
+      let same : way.plan ≡ m.plan = same_Some way.plan m.plan (sym way.planned ∙ one.planned)
+      in no_plan way.command (sym none ∙ rw (one.tries, ← same) way.present)
+
+  -- and nothing is next
   none_next : slice_get m.plan.commands (place m.tries (acts session past)).command ≡ None → (mark : Mark) → Next p scene session mark past ↔ ⊥
   none_next none mark = (
-    λ next. no_plan next.way.command (sym none ∙ (is_under p scene session past m one next.way next.op next.found).present),
+    λ next. none_under_way none next.way,
     λ wrong. absurd wrong,
   )
 
@@ -101,4 +107,4 @@ module _ (p : Rules) (scene : Scene) (session : ℕ) (past : List Event) (m : Se
   is_wish (wish.Issue effect) n = record { marks = marks_of (wish.Issue effect) n; fit = n.fit }
   is_wish wish.Release n = record { marks = marks_of wish.Release n; fit = n.fit }
   is_wish (wish.Return value) n = record { marks = marks_of (wish.Return value) n; fit = n.fit }
-  is_wish wish.Finished none = record { marks = none_next none; fit = tt }
+  is_wish wish.Finished none = record { marks = none_next none; fit = none_under_way none }

@@ -28,6 +28,20 @@ abbrev pub IsOutOfReach : Scene → ℕ → ℕ → List Event → Type 0
 IsOutOfReach scene replica entry past = (r : ℕ) → r < scene.replicas →
     is_linked r replica past ≡ true → is_held scene.sessions r entry past ≡ false
 
+-- the replica `source` is linked to this one and holds the entry, and no lower one is and does
+pub record IsHolder
+    (scene : Scene) (replica entry source : ℕ) (past : List Event) : Type 0 where
+  pub from : source < scene.replicas
+  pub linked : is_linked source replica past ≡ true
+  pub held : is_held scene.sessions source entry past ≡ true
+  pub lowest : (r : ℕ) → r < source → is_linked r replica past ≡ true →
+      is_held scene.sessions r entry past ≡ false
+
+-- the lowest replica that is linked to this one and holds the entry; none where it is out of reach
+abbrev pub IsFirstHolder : Scene → ℕ → ℕ → Option ℕ → List Event → Type 0
+IsFirstHolder scene replica entry None past = IsOutOfReach scene replica entry past
+IsFirstHolder scene replica entry (Some source) past = IsHolder scene replica entry source past
+
 -- the live grant does not admit the effect
 pub record IsBar (p : Rules) (effect : List Atom) (holder guard : ℕ) (past : List Event) : Type 0 where
   pub live : is_live holder guard past ≡ true

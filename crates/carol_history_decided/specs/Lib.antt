@@ -5,3 +5,4 @@ pub mod Feeding
 pub mod Wishes
 pub mod Firsts
 pub mod Illegal
+pub mod Forcing

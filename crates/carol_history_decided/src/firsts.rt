@@ -2,8 +2,8 @@ ghost use Rattle.std.specs.Prelude.{◌≡◌, ◌↔◌, ◌<◌, true, length,
 ghost use Rattle.carol_store.specs.Effects.{IsEffect};
 ghost use Rattle.carol_history.specs.Journals.{effect_at};
 ghost use Rattle.carol_history.specs.Legal.{Admits, IsSettled};
-ghost use Rattle.carol_history_decided.specs.Firsts.{IsBarOf, IsFirstBar, IsFirstUnsettled};
-ghost use Rattle.carol_history_decided.specs.Firsts.{IsOutOfReach};
+ghost use Rattle.carol_history_decided.specs.Firsts.{IsBarOf, IsFirstBar, IsFirstHolder};
+ghost use Rattle.carol_history_decided.specs.Firsts.{IsFirstUnsettled, IsOutOfReach};
 ghost use Rattle.carol_history_decided.specs.Histories.{IsShort, past_of, rules_of};
 
 use crate::entries::{is_held, journal};
@@ -66,14 +66,21 @@ pub(crate) fn is_out_of_reach(history: &History, replica: u32, entry: u32) -> bo
     ensures { (result ≡ true)
         ↔ IsOutOfReach history.now.scene.now replica entry (past_of history.now) }
 {
-    for other in 0..history.scene.replicas {
-        if is_linked(other, replica, history.past)
-            && is_held(history.scene, other, entry, history.past)
+    first_holder(history, replica, entry).is_none()
+}
+
+/// The lowest replica that is linked to this one and holds the entry.
+pub(crate) fn first_holder(history: &History, replica: u32, entry: u32) -> Option<u32>
+    ensures { IsFirstHolder history.now.scene.now replica entry result (past_of history.now) }
+{
+    for source in 0..history.scene.replicas {
+        if is_linked(source, replica, history.past)
+            && is_held(history.scene, source, entry, history.past)
         {
-            return false;
+            return Some(source);
         }
     }
-    true
+    None
 }
 
 /// The lowest live grant of another session that does not admit the effect, as its session and its
