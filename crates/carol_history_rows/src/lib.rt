@@ -1,5 +1,5 @@
-//! Histories that were worked out by hand: which are runs, in which sessions go on as they are to,
-//! and at which event a changed one is none. There are only tests here.
+//! Histories that were worked out by hand: which are runs, and at which event a changed one is
+//! none. There are only tests here.
 #![tactic(auto)]
 
 #[cfg(test)]

@@ -1,12 +1,11 @@
-ghost use Rattle.std.specs.Prelude.{◌≤◌, length, reverse, IfOk};
+ghost use Rattle.std.specs.Prelude.{◌≤◌, length, IfOk};
 ghost use Rattle.carol_program.specs.Rules.{rules_in};
 ghost use Rattle.carol_program.specs.Scenes.{IsValidScene};
-ghost use Rattle.carol_history_decided.specs.Shorts.{IsShortRun};
 
 use carol_accept::accept;
-use carol_event::{Event, parse_event, print_event};
+use carol_event::{Event, parse_event};
 use carol_history::MOST_EVENTS;
-use carol_history_decided::{first_illegal, forced};
+use carol_history_decided::first_illegal;
 use carol_parse::parse;
 use carol_program::Scene;
 use carol_reading::Accepted;
@@ -304,60 +303,6 @@ fn events(alloc: Global, lines: &str, kept: usize, last: &str) -> Result<Vec<Eve
     Ok(events)
 }
 
-// Whose event it is; none for a script's.
-fn actor(event: &Event) -> Option<u32> {
-    match event {
-        Event::Grant { session, .. } => Some(*session),
-        Event::Query { session, .. } => Some(*session),
-        Event::Issue { session, .. } => Some(*session),
-        Event::Release { session } => Some(*session),
-        Event::Return { session, .. } => Some(*session),
-        Event::Refuse { session, .. } => Some(*session),
-        Event::Deliver { .. } => None,
-        Event::Cut { .. } => None,
-        Event::Join { .. } => None,
-    }
-}
-
-// The lines of the events, in which each session makes the event that it is to go on with.
-fn forced_lines(
-    alloc: Global,
-    accepted: &Accepted,
-    scene: &Scene,
-    events: &[Event],
-) -> Result<Vec<u8>, AllocError>
-    requires { IsShortRun (rules_in accepted.now.program) scene.now (reverse events.now) }
-{
-    let mut lines = Vec::new(alloc);
-    for (i, event) in events.iter().enumerate() {
-        let Some(session) = actor(event) else {
-            print_event(event, &mut lines)?;
-            continue;
-        };
-        if let Some(next) = forced(alloc, accepted, scene, session, &events[..i])? {
-            print_event(&next, &mut lines)?;
-        }
-    }
-    Ok(lines)
-}
-
-// The same, and no lines where the events are no run.
-fn told(
-    alloc: Global,
-    accepted: &Accepted,
-    scene: &Scene,
-    events: &[Event],
-) -> Result<Vec<u8>, AllocError>
-    requires valid { IsValidScene (rules_in accepted.now.program) scene.now }
-    requires few { length events.now ≤ MOST_EVENTS }
-{
-    let illegal = first_illegal(alloc, accepted, scene, events)?;
-    match illegal {
-        None => forced_lines(alloc, accepted, scene, events),
-        Some(_) => Ok(Vec::new(alloc)),
-    }
-}
-
 #[test]
 fn worked_histories_are_runs(rt: HostRuntime) -> Result<(), Fail> {
     let alloc = rt.alloc();
@@ -380,9 +325,6 @@ fn worked_histories_are_runs(rt: HostRuntime) -> Result<(), Fail> {
             None,
             "{lines}"
         );
-        let told = told(alloc, &accepted, &scene, &events)?;
-        let text = format!(in alloc; "{lines}\n")?;
-        assert_eq!(rt; told.as_slice(), text.as_bytes(), "{lines}");
     }
     Ok(())
 }
