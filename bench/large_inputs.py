@@ -5,13 +5,19 @@
                a guard asks for
     gossip     64 sessions under a guard that asks for nothing; then each entry is brought to each replica, line by line
     cut_off    a replica is cut off from all others while they make entries, then joined, and brought each of them
-    guards     64 sessions, each with live grants of 8 of 16 guards, whose issues others bar"""
+    guards     64 sessions, each with live grants of 8 of 16 guards, whose issues others bar
+
+The files are made by a process of their own, since the memory that a child is said to take is never less than that of
+the process that starts it.
+
+    large_inputs.py KIND LENGTH      prints one"""
 
 import os
 import subprocess
+import sys
 import time
 
-REPLICAS, SESSIONS, COMMANDS = 8, 64, 64
+REPLICAS, SESSIONS = 8, 64
 LENGTHS = (16_384, 131_072)
 
 
@@ -51,27 +57,27 @@ def rounds(length):
 
 
 def gossip(length):
-    """A command has four events. Each entry goes to the seven other replicas."""
-    body = ["query seen under any;", "issue a += n, b -= n;"]
+    """A command has seven events, of them four entries. Each goes to the seven other replicas."""
+    body = ["query seen under any;", *(["issue a += n, b -= n;"] * 4)]
     made = program("ab", [("any", "true")], [operation("move", "n: 0 <= n and n <= 9", body)])
-    commands = length // (SESSIONS * 11)
-    statements = in_turn(4 * commands)
+    commands = length // (SESSIONS * 35)
+    statements = in_turn(7 * commands)
     pairs = [(q, r) for q in range(REPLICAS) for r in range(REPLICAS) if q != r]
-    entries = SESSIONS // REPLICAS * commands
+    entries = SESSIONS // REPLICAS * 4 * commands
     statements += [f"gossip {q} {r}" for _ in range(entries) for q, r in pairs]
     return made, scene(lambda session: [f"move(3) times {commands}"]), script(statements)
 
 
 def cut_off(length):
-    """Fifteen entries a command. Those of 56 sessions on seven replicas go to the eighth when all of them are there."""
+    """Twenty entries a command. Those of 56 sessions on seven replicas go to the eighth when all of them are there."""
     last, sessions = REPLICAS - 1, 56
-    body = [f"issue {'ab'[k % 2]} += n;" for k in range(15)]
+    body = [f"issue {'ab'[k % 2]} += n;" for k in range(20)]
     made = program("ab", [], [operation("add", "n: 0 <= n and n <= 9", body)])
-    commands = (length - 2 * last) // (sessions * 31)
+    commands = (length - 2 * last) // (sessions * 41)
     statements = [f"cut {replica} {last}" for replica in range(last)]
-    statements += in_turn(16 * commands, sessions)
+    statements += in_turn(21 * commands, sessions)
     statements += [f"join {replica} {last}" for replica in range(last)]
-    entries = sessions // last * 15 * commands
+    entries = sessions // last * 20 * commands
     statements += [f"gossip {replica} {last}" for _ in range(entries) for replica in range(last)]
     return made, scene(lambda session: [f"add(3) times {commands}"], sessions, lambda s: s % last), script(statements)
 
@@ -105,3 +111,19 @@ def best(words, path, into, times=3):
     """The least time and the largest memory of some runs."""
     runs = [timed(words, path, into) for _ in range(times)]
     return runs[0][0], min(seconds for _, seconds, _ in runs), max(memory for _, _, memory in runs)
+
+
+def written(kind, length, path):
+    """Writes the file of the kind and the length."""
+    with open(path, "wb") as sink:
+        subprocess.run([sys.executable, __file__, kind, str(length)], stdout=sink, check=True)
+
+
+def last_line(path):
+    with open(path, "rb") as file:
+        file.seek(max(0, os.path.getsize(path) - 100))
+        return (file.read().decode().splitlines() or ["nothing"])[-1]
+
+
+if __name__ == "__main__":
+    print("\n".join(KINDS[sys.argv[1]](int(sys.argv[2]))))
