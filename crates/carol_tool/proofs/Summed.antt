@@ -2,6 +2,7 @@
 use Rattle.std.proofs.Common.{◌≡◌, ℕ, List, [], sym, ◌∙◌, ap, subst}
 use Rattle.std.specs.Prelude.{None, Some, Result, Ok, Err, IfOk}
 use Rattle.std.specs.declared.alloc.AllocError.{AllocError}
+use Rattle.carol_bound.specs.Laws.{RunsAreShort}
 use Rattle.carol_event.specs.declared.event.Event.{Event}
 use Rattle.carol_house.specs.House.{House, IsHistory, IsOverSame, UpholdsAll, rules_of}
 use Rattle.carol_house_summary.specs.Summary.{summary_text}
@@ -28,6 +29,7 @@ use Rattle.carol_tool.specs.declared.status.Status.TheVariants as status
 use Rattle.carol_tool.proofs.Refusals.{IsOfAccepted}
 use Rattle.carol_tool.proofs.Replies.{IsMeaning, agree_same, reply_of_error, reply_of_file}
 use Rattle.carol_tool.proofs.Staging.{IsSaid, staged_agree, staged_own, takes_agree, takes_own}
+use Rattle.carol_tool.proofs.Turned.{turns_short}
 
 -- ---- answers agree
 
@@ -62,15 +64,16 @@ sums once count = record {
 -- ---- what is told
 
 -- what the house tells in which the sessions went on
-pub told_summed : (count : ℕ) (kept : Kept) (scene : Scene) (old new : House) (answer : Answer) → old.kept ≡ kept → old.scene ≡ scene → old.history ≡ []
+pub told_summed : RunsAreShort → (count : ℕ) (kept : Kept) (scene : Scene) (old new : House) (answer : Answer) → old.kept ≡ kept → old.scene ≡ scene → old.history ≡ []
     → IsOverSame old new → Turns (rules_of old) old.scene old.history new.history → IsHistory new → UpholdsAll new
     → answer ≡ (status.Ok, summary_text count (rules_of new) new.scene new.history) → IsSummed count kept scene answer
-told_summed count kept scene old new answer same_kept same_scene empty over turns is upheld told =
+told_summed law count kept scene old new answer same_kept same_scene empty over turns is upheld told =
     subst (λ (k : Kept). IsSummed count k scene answer) (over.kept ∙ same_kept) (subst (λ (s : Scene). IsSummed count new.kept s answer) (over.scene ∙ same_scene) (record {
       past = new.history;
       turns = made;
       run = is.run;
       few = is.few;
+      short = turns_short law (rules_of new) new.scene new.history is.may.valid is.run made;
       upheld = upheld;
       told = told;
     }))

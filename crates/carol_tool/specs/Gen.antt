@@ -2,6 +2,7 @@
 use Rattle.std.specs.Prelude.{◌≡◌, ◌≤◌, ℕ, List, [], None, length, drop}
 use Rattle.carol_event.specs.declared.event.Event.{Event}
 use Rattle.carol_history.specs.declared.history.TheConstants.{MOST_EVENTS}
+use Rattle.carol_history.specs.Bounds.{most_events}
 use Rattle.carol_history.specs.Runs.{Run}
 use Rattle.carol_house_summary.specs.Summary.{summary_text}
 use Rattle.carol_house_turns.specs.Turns.{Turns}
@@ -27,6 +28,7 @@ pub record IsSummed (count : ℕ) (kept : Kept) (scene : Scene) (answer : Answer
   -- each event may come behind those before it
   pub run : Run (rules_in kept.program) scene past
   pub few : length past ≤ MOST_EVENTS
+  pub short : length past ≤ most_events (rules_in kept.program) scene
   -- up to each event it upholds what an accepted program does
   pub upheld : (later : ℕ) → Upheld (rules_in kept.program) scene (drop later past)
   pub told : answer ≡ (status.Ok, summary_text count (rules_in kept.program) scene past)

@@ -13,6 +13,7 @@ use super::reply::{Line, Reply, one_line};
 use super::staged::{Stage, staged};
 use super::status::Status;
 use super::told::bad_text;
+use carol_bound::bound_laws;
 use carol_house::House;
 use carol_house_summary::summary;
 use carol_house_turns::{run_in_turns, turns_laws};
@@ -100,6 +101,7 @@ fn sum_ready(
     requires valid { IsValidScene (rules_in accepted.program) scene }
     ensures { IfOk result (λ reply. IsSummed count accepted scene (answer_of reply)) }
 {
+    bound_laws();
     let fresh = House::new(alloc, accepted, scene)?;
     let house = run_in_turns(fresh, EVENTS_PER_COUNT * count)?;
     let _upheld = house.history();
