@@ -16,8 +16,8 @@ end
 
 const USAGE: &[u8] = b"usage: carol check, step, run, audit or gen N\n";
 
-// Calls `carol` with these words on a source whose first reading fails, and holds the status and the
-// text against those that are expected.
+// Calls `carol` with these words on a source whose first reading fails, and holds the status and
+// the text against those that are expected.
 fn holds<R: Threads + Wait + Sync + AllocGlobal>(
     rt: &R,
     words: &[&[u8]],

@@ -25,13 +25,13 @@ use carol_syntax::{File, SceneDecl};
 use std::alloc::{AllocError, Global};
 use std::thread::Threads;
 
-// Room for so many events is taken at the start for each command of a session. Sixteen sessions have
-// that command, and each makes no more than 13 events and three deliveries of its entry.
+// Room for so many events is taken at the start for each command of a session. Sixteen sessions
+// have that command, and each makes no more than 13 events and three deliveries of its entry.
 const EVENTS_PER_COUNT: u32 = 16 * 16;
 
 /// Makes the text of a large input with so many commands in each session, reads it as any input is
-/// read, and sums up the history that its sessions make when they go on in turn. That history is one
-/// that the accepted program can make, and the number fixes it.
+/// read, and sums up the history that its sessions make when they go on in turn. That history is
+/// one that the accepted program can make, and the number fixes it.
 pub(crate) fn sum_up<R: Threads + Sync>(
     rt: &R,
     alloc: Global,
