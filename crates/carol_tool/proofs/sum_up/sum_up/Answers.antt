@@ -9,8 +9,8 @@ returns-in-Ok g c =
     let text : c.deref.result.now ≡ generated_text c.args.count = search rules in
     summed_file c.turns_laws.ensures c.args.count c.deref.result.now (file_tree c.in-Ok.file) c.sum_file.result text c.in-Ok.ensures.means c.in-Ok.ensures.only c.sum_file.ensures
 
-pub returns-in-Err : goal.returns-in-Err
-returns-in-Err g c =
+pub returns : goal.returns
+returns g c =
     let text : c.deref.result.now ≡ generated_text c.args.count = search rules in
     summed_error c.turns_laws.ensures c.args.count c.deref.result.now c.in-Err.error c.bad_text.result text c.in-Err.ensures.means c.in-Err.ensures.only c.bad_text.ensures
 
