@@ -10,6 +10,8 @@ pub mod Audited
 pub mod Genuine
 pub mod Played
 pub mod Ran
+pub mod Turned
+pub mod Summed
 pub mod Accorded
 pub mod Checked
 pub mod Firsts

@@ -54,8 +54,10 @@ Means command bytes old new meant text = (length bytes ≤ most_text_bytes) × S
 pub record Done (command : Command) (bytes : List ℕ) (old new : End) (meant : Status)
     (text : List ℕ) : Type 0 where
   pub means : Means command bytes old new meant text
-  -- with a status of its own it has read all bytes, and what else they mean agrees with it
+  -- with a status of its own it has read all bytes, if it reads any, and what else they mean agrees
+  -- with it
   pub whole : IsOwn meant → ReadsAll command → IsAtEnd new.bytes
+  pub unread : (ReadsAll command → ⊥) → bytes ≡ []
   pub fixed : IsOwn meant → (other : Answer) → Says command bytes other.0 other.1
       → Agree command other (meant, text)
 
@@ -64,14 +66,19 @@ abbrev pub Comes : Option Command → List ℕ → End → End → Status → Li
 Comes None bytes old new meant text = (bytes ≡ []) × ((meant, text) ≡ stop_answer stop.Usage)
 Comes (Some command) bytes old new meant text = Done command bytes old new meant text
 
--- What a call with these words is to answer, from what the source tells before it and behind it.
-pub record Meant (words : List (List ℕ)) (old new : End) (meant : Status) (text : List ℕ) : Type 0
-  where
-    -- the bytes that the source gave
-    pub bytes : List ℕ
-    pub given : Consumes old.bytes new.bytes bytes
-    pub comes : Comes (command_of words) bytes old new meant text
-    pub counted : old.faults ≤ new.faults
+-- What is to be answered to a command, or to words that are none, from what the source tells before
+-- the call and behind it.
+pub record MeantBy (command : Option Command) (old new : End) (meant : Status) (text : List ℕ)
+    : Type 0 where
+  -- the bytes that the source gave
+  pub bytes : List ℕ
+  pub given : Consumes old.bytes new.bytes bytes
+  pub comes : Comes command bytes old new meant text
+  pub counted : old.faults ≤ new.faults
+
+-- what a call with these words is to answer
+abbrev pub Meant : List (List ℕ) → End → End → Status → List ℕ → Type 0
+Meant words old new meant text = MeantBy (command_of words) old new meant text
 
 -- The text was written, and its status is answered; or writing failed after a part of the text, and
 -- the sink counted that.

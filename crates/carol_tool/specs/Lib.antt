@@ -8,6 +8,7 @@ pub mod Stages
 pub mod Step
 pub mod Audit
 pub mod Run
+pub mod Gen
 pub mod Says
 pub mod Answer
 pub mod AuditLaws

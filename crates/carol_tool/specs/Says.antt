@@ -2,6 +2,7 @@
 use Rattle.std.specs.Prelude.{◌≡◌, List, ℕ}
 use Rattle.carol_tool.specs.Audit.{AuditSays}
 use Rattle.carol_tool.specs.Check.{CheckSays}
+use Rattle.carol_tool.specs.Gen.{GenSays}
 use Rattle.carol_tool.specs.Run.{RunSays}
 use Rattle.carol_tool.specs.Step.{StepSays}
 use Rattle.carol_tool.specs.Texts.{Answer}
@@ -10,19 +11,21 @@ use Rattle.carol_tool.specs.declared.command.Command.TheVariants as command
 use Rattle.carol_tool.specs.declared.status.Status.{Status}
 use Rattle.carol_tool.specs.declared.status.Status.TheVariants as status
 
--- to the command the bytes mean this status and this text
+-- to the command the bytes mean this status and this text; `gen` reads none
 abbrev pub Says : Command → List ℕ → Status → List ℕ → Type 0
 Says command.Audit bytes meant text = AuditSays bytes (meant, text)
 Says command.Check bytes meant text = CheckSays bytes (meant, text)
 Says command.Step bytes meant text = StepSays bytes (meant, text)
 Says command.Run bytes meant text = RunSays bytes (meant, text)
+Says (command.Gen count) bytes meant text = GenSays count (meant, text)
 
--- the command reads its whole input
+-- the command reads its whole input, or else nothing
 abbrev pub ReadsAll : Command → Type 0
 ReadsAll command.Audit = Unit {0}
 ReadsAll command.Check = Unit {0}
 ReadsAll command.Step = Unit {0}
 ReadsAll command.Run = Unit {0}
+ReadsAll (command.Gen count) = ⊥
 
 -- the bytes fix what comes of an accepted program; a run may come to one history or another
 abbrev pub FixesHistory : Command → Type 0

@@ -1,6 +1,6 @@
 -- The texts of the statuses, each ended by a line feed. With Ok a command says a text of its own,
--- `check` the accords, `step` and `run` a report, and with Refused and Undecided a verdict; with WriteFault a
--- part of another text was written.
+-- `check` the accords, `step` and `run` a report, `gen` a summary, and with Refused and Undecided a
+-- verdict; with WriteFault a part of another text was written.
 -- With Ok and FalseTranscript `audit` says what it found.
 use Rattle.std.specs.Prelude.{List, ℕ, ◌++◌, codes, decimal}
 use Rattle.carol_history.specs.declared.script.ScriptCause.{ScriptCause}
@@ -48,6 +48,7 @@ command_word command.Audit = codes "audit"
 command_word command.Check = codes "check"
 command_word command.Step = codes "step"
 command_word command.Run = codes "run"
+command_word (command.Gen count) = codes "gen " ++ decimal count
 
 abbrev pub limit_name : TextLimit → List ℕ
 limit_name limit.ProgramBytes = codes "program bytes"

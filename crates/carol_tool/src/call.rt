@@ -1,8 +1,9 @@
-ghost use Rattle.std.specs.Prelude.{◌≡◌, ◌≢◌, ◌↔◌, ◌≤◌, [], ◌∷◌, length, IsTrue, IfOk, codes};
+ghost use Rattle.std.specs.Prelude.{◌≡◌, ◌≢◌, ◌↔◌, ◌≤◌, [], ◌∷◌, Some, length, IsTrue, IfOk, codes};
 ghost use Rattle.carol_outer.specs.Faults.{Rose};
 ghost use Rattle.carol_syntax.specs.Limits.{most_text_bytes};
-ghost use Rattle.carol_tool.specs.Answer.{Answered, IsReply, Meant, Wrote, end_of};
+ghost use Rattle.carol_tool.specs.Answer.{Answered, IsReply, Meant, MeantBy, Wrote, end_of};
 ghost use Rattle.carol_tool.specs.Reply.{answer_of, outcome_answer};
+ghost use Rattle.carol_tool.specs.Says.{ReadsAll};
 ghost use Rattle.carol_tool.specs.Texts.{stop_answer};
 ghost use Rattle.carol_tool.specs.Words.{texts};
 
@@ -13,6 +14,7 @@ use super::reply::{Reply, Stop};
 use super::run::run;
 use super::status::Status;
 use super::step::step;
+use super::sum_up::sum_up;
 use carol_outer::{Gate, Sink, Source, read_all, write_all};
 use carol_syntax::MOST_TEXT_BYTES;
 use std::alloc::{AllocError, Global};
@@ -100,7 +102,28 @@ fn reply<R: Threads + Sync, S: Source>(
         (end_of (S.left source.new) (S.faults source.new))
         answer.0 answer.1 }
 {
-    let command = command_of(words).ok_or(Stop::Usage)?;
+    match command_of(words) {
+        None => Err(Stop::Usage),
+        Some(Command::Gen(count)) => Ok(sum_up(rt, alloc, count)?),
+        Some(command) => read_reply(rt, alloc, command, source),
+    }
+}
+
+// Does the command, which reads its input and isn't `run`, with what the source gives.
+fn read_reply<R: Threads + Sync, S: Source>(
+    rt: &R,
+    alloc: Global,
+    command: Command,
+    source: &mut S,
+) -> Result<Reply, Stop>
+    requires plain { command ≢ Command.Run }
+    requires reads { ReadsAll command }
+    ensures { let answer = outcome_answer result in
+        MeantBy (Some command)
+        (end_of (S.left source.old) (S.faults source.old))
+        (end_of (S.left source.new) (S.faults source.new))
+        answer.0 answer.1 }
+{
     let bytes = read_all(alloc, source, MOST_TEXT_BYTES)?;
     Ok(command_reply(rt, alloc, command, &bytes)?)
 }
@@ -113,6 +136,7 @@ fn command_reply<R: Threads + Sync>(
     bytes: &[u8],
 ) -> Result<Reply, AllocError>
     requires plain { command ≢ Command.Run }
+    requires reads { ReadsAll command }
     requires short { length bytes.now ≤ most_text_bytes }
     ensures { IfOk result (λ reply. IsReply command bytes.now (answer_of reply)) }
 {
@@ -120,7 +144,7 @@ fn command_reply<R: Threads + Sync>(
         Command::Audit => audit(rt, alloc, bytes),
         Command::Check => check(rt, alloc, bytes),
         Command::Step => step(rt, alloc, bytes),
-        Command::Run => unreachable!(),
+        Command::Run | Command::Gen(_) => unreachable!(),
     }
 }
 
@@ -132,7 +156,7 @@ fn run_reply<R: Threads + Wait + Sync, S: Source, G: Gate + Sync>(
     gate: &G,
 ) -> Result<Reply, Stop>
     ensures { let answer = outcome_answer result in
-        Meant (codes "run" ∷ [])
+        MeantBy (Some Command.Run)
         (end_of (S.left source.old) (S.faults source.old))
         (end_of (S.left source.new) (S.faults source.new))
         answer.0 answer.1 }

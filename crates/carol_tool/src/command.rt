@@ -1,7 +1,9 @@
 ghost use Rattle.std.specs.Prelude.{◌≡◌, Some, [], ◌∷◌};
 ghost use Rattle.carol_tool.specs.Texts.{command_word};
-ghost use Rattle.carol_tool.specs.Words.{texts, command_of};
+ghost use Rattle.carol_tool.specs.Words.{texts, command_of, spelled_count};
 
+use carol_scenario::MOST_PER_SESSION;
+use carol_text::number;
 use std::fmt;
 
 /// What the program is asked to do.
@@ -15,6 +17,9 @@ pub enum Command {
     Step,
     /// To run the scene of a file in threads.
     Run,
+    /// To make a large input with so many commands in each session, from 1 to 256, and sum up what
+    /// comes of it.
+    Gen(u32),
 }
 
 impl fmt::Display for Command {
@@ -26,6 +31,7 @@ impl fmt::Display for Command {
             Command::Check => write!(f, "check"),
             Command::Step => write!(f, "step"),
             Command::Run => write!(f, "run"),
+            Command::Gen(count) => write!(f, "gen {count}"),
         }
     }
 }
@@ -36,6 +42,7 @@ pub(crate) fn command_of(words: &[Vec<u8>]) -> Option<Command>
 {
     match words {
         [word] => command_named(word),
+        [word, count] => counted_command(word, count),
         _ => None,
     }
 }
@@ -57,4 +64,24 @@ fn command_named(word: &[u8]) -> Option<Command>
         return Some(Command::Run);
     }
     None
+}
+
+// The command that this word and this number behind it are, if they are one.
+fn counted_command(word: &[u8], count: &[u8]) -> Option<Command>
+    ensures { result ≡ command_of (word.now ∷ count.now ∷ []) }
+{
+    if word == b"gen".as_slice() {
+        return spelled_count(count).map(Command::Gen);
+    }
+    None
+}
+
+// The number from 1 to 256 that is spelled so, if one is.
+fn spelled_count(text: &[u8]) -> Option<u32>
+    ensures { result ≡ spelled_count MOST_PER_SESSION text.now }
+{
+    match number(text, u64::from(MOST_PER_SESSION)) {
+        Ok((count, rest)) if count >= 1 && rest.is_empty() => Some(count as u32),
+        _ => None,
+    }
 }

@@ -7,6 +7,8 @@ mod check;
 #[cfg(test)]
 mod check_tests;
 mod command;
+#[cfg(test)]
+mod gen_tests;
 mod laws;
 mod reply;
 mod run;
@@ -15,6 +17,7 @@ mod status;
 mod step;
 #[cfg(test)]
 mod step_tests;
+mod sum_up;
 #[cfg(test)]
 mod tests;
 mod told;

@@ -1,23 +1,25 @@
-use Rattle.std.proofs.Common.{◌≡◌, ◌<◌, length, ap, rules}
-use Rattle.std.specs.Prelude.{Some, Err}
-use Rattle.carol_tool.specs.Reply.{answer_of, outcome_answer}
+use Rattle.std.proofs.Common.{◌≡◌, rules}
+use Rattle.std.specs.Prelude.{Some}
+use Rattle.carol_tool.specs.Answer.{end_of}
+use Rattle.carol_tool.specs.Reply.{answer_of}
 use Rattle.carol_tool.specs.Words.{texts, command_of}
-use Rattle.carol_syntax.specs.Limits.{most_text_bytes}
-use Rattle.carol_tool.specs.Texts.{stop_answer, stop_of}
-use Rattle.carol_tool.proofs.Meaning.{meant_by_error, meant_by_reply, within_from}
+use Rattle.carol_tool.specs.declared.command.Command.TheVariants as command
+use Rattle.carol_tool.proofs.Meaning.{meant_unread}
+use Rattle.carol_tool.proofs.Words.{gen_within}
 use Rattle.carol_tool.proofs.call.reply.Goals as goal
 
-pub returns : goal.returns
-returns g c =
-    let command : command_of (texts c.args.words.now) ≡ Some c.in_ok-command.command = search rules in
-    let all = c.in_ok-bytes.ensures.given in
-    let fits : most_text_bytes < length all.0 → ⊥ = λ more. (let e = all.3.1 more in cc) in
-    let same : c.deref.result.now ≡ all.0 = search rules in
-    meant_by_reply _ _ _ all.0 _ c.in_ok-command.command (answer_of c.in_ok-command_reply.field-0) command all.1 (within_from _ _ fits) same c.in_ok-bytes.ensures.end c.in_ok-bytes.ensures.counted c.in_ok-command_reply.ensures
+pub sum_up-requires-clause-some : goal.sum_up-requires-clause-some
+sum_up-requires-clause-some g c κs within =
+    let command : command_of (texts c.args.words.now) ≡ Some (command.Gen c.in-Some-Gen.count) = search rules in
+    (gen_within (texts c.args.words.now) c.in-Some-Gen.count command).0
 
-pub returns-in_err-bytes : goal.returns-in_err-bytes
-returns-in_err-bytes g c =
-    let command : command_of (texts c.args.words.now) ≡ Some c.in_ok-command.command = search rules in
-    let given = c.in_err-bytes.ensures.given in
-    let said : outcome_answer c.from_residual-in_err-bytes.result ≡ stop_answer (stop_of c.in_err-bytes.field-0.0) = search rules in
-    meant_by_error _ _ _ given.0 _ c.in_err-bytes.field-0.0 _ said command given.1 (λ more. (let e = given.3.1 more in cc)) (λ e. given.3.0 (ap Err e)) (λ e. c.in_err-bytes.ensures.fault (ap Err e)) c.in_err-bytes.ensures.counted
+pub sum_up-requires-clause-few : goal.sum_up-requires-clause-few
+sum_up-requires-clause-few g c κs within =
+    let command : command_of (texts c.args.words.now) ≡ Some (command.Gen c.in-Some-Gen.count) = search rules in
+    (gen_within (texts c.args.words.now) c.in-Some-Gen.count command).1
+
+pub returns-in_ok-sum_up-in-Some-Gen : goal.returns-in_ok-sum_up-in-Some-Gen
+returns-in_ok-sum_up-in-Some-Gen g c =
+    let command : command_of (texts c.args.words.now) ≡ Some (command.Gen c.in-Some-Gen.count) = search rules in
+    let source = end_of (g.S.Source.left c.args.source.now) (g.S.Source.faults c.args.source.now) in
+    meant_unread (texts c.args.words.now) source c.in-Some-Gen.count (answer_of c.in_ok-sum_up-in-Some-Gen.field-0) command c.in_ok-sum_up-in-Some-Gen.ensures

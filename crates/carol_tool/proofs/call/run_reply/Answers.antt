@@ -1,5 +1,5 @@
-use Rattle.std.proofs.Common.{◌≡◌, ◌<◌, [], ◌∷◌, length, ap, refl, rules}
-use Rattle.std.specs.Prelude.{Err, codes}
+use Rattle.std.proofs.Common.{◌≡◌, ◌<◌, length, ap, rules}
+use Rattle.std.specs.Prelude.{Err}
 use Rattle.carol_tool.specs.Reply.{answer_of, outcome_answer}
 use Rattle.carol_syntax.specs.Limits.{most_text_bytes}
 use Rattle.carol_tool.specs.Texts.{stop_answer, stop_of}
@@ -12,10 +12,10 @@ returns g c =
     let all = c.in_ok-text.ensures.given in
     let fits : most_text_bytes < length all.0 → ⊥ = λ more. (let e = all.3.1 more in cc) in
     let same : c.deref.result.now ≡ all.0 = search rules in
-    meant_by_reply (codes "run" ∷ []) _ _ all.0 _ command.Run (answer_of c.in_ok-run.field-0) refl all.1 (within_from _ _ fits) same c.in_ok-text.ensures.end c.in_ok-text.ensures.counted c.in_ok-run.ensures
+    meant_by_reply _ _ all.0 _ command.Run (answer_of c.in_ok-run.field-0) tt all.1 (within_from _ _ fits) same c.in_ok-text.ensures.end c.in_ok-text.ensures.counted c.in_ok-run.ensures
 
 pub returns-in_err-text : goal.returns-in_err-text
 returns-in_err-text g c =
     let given = c.in_err-text.ensures.given in
     let said : outcome_answer c.from_residual.result ≡ stop_answer (stop_of c.in_err-text.field-0.0) = search rules in
-    meant_by_error (codes "run" ∷ []) _ _ given.0 command.Run c.in_err-text.field-0.0 _ said refl given.1 (λ more. (let e = given.3.1 more in cc)) (λ e. given.3.0 (ap Err e)) (λ e. c.in_err-text.ensures.fault (ap Err e)) c.in_err-text.ensures.counted
+    meant_by_error _ _ given.0 command.Run c.in_err-text.field-0.0 _ said tt given.1 (λ more. (let e = given.3.1 more in cc)) (λ e. given.3.0 (ap Err e)) (λ e. c.in_err-text.ensures.fault (ap Err e)) c.in_err-text.ensures.counted
