@@ -1,4 +1,4 @@
-use Rattle.std.proofs.Common.{◌≡◌, ◌∙◌, sym, ap, subst, rules}
+use Rattle.std.proofs.Common.{◌≡◌, ◌∙◌, sym, ap, subst}
 use Rattle.std.specs.Prelude.{IsOkAnd}
 use Rattle.carol_tool.specs.Words.{spelled_count}
 use Rattle.carol_tool.proofs.Words.{spelled_bad, spelled_more, spelled_whole, spelled_zero}
