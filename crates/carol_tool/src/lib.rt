@@ -2,6 +2,8 @@
 #![tactic(auto)]
 
 mod audit;
+#[cfg(test)]
+mod audit_tests;
 mod call;
 mod check;
 #[cfg(test)]
@@ -10,6 +12,8 @@ mod command;
 mod laws;
 mod reply;
 mod run;
+#[cfg(test)]
+mod run_tests;
 mod staged;
 mod status;
 mod step;
