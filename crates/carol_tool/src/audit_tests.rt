@@ -1,5 +1,6 @@
 use super::Status;
 use super::tests::{BANK, FULL_REPORT, SESSIONS, call, scene_input};
+use std::alloc::Global;
 use std::str;
 use std::test::Fail;
 
@@ -123,18 +124,22 @@ const CHANGES: [Change; 20] = [
     ),
 ];
 
+// The report of the whole script with another part in it.
+fn changed_report(alloc: Global, old: &str, new: &str) -> Result<Vec<u8>, Fail> {
+    let report = str::from_utf8(FULL_REPORT)?;
+    let (front, back) = report.split_once(old).ok_or("no such part")?;
+    let mut changed = Vec::from_slice(alloc, front.as_bytes())?;
+    changed.extend_from_slice(new.as_bytes())?;
+    changed.extend_from_slice(back.as_bytes())?;
+    Ok(changed)
+}
+
 #[test]
 fn tells_the_first_that_is_false(rt: HostRuntime) -> Result<(), Fail> {
     let input = scene_input(rt.alloc(), BANK, (2, 2), SESSIONS)?;
-    let report = str::from_utf8(FULL_REPORT)?;
     for (old, new, status, output) in &CHANGES {
-        let (front, back) = report.split_once(*old).ok_or("no such part")?;
-        let parts = [
-            input.as_slice(),
-            front.as_bytes(),
-            new.as_bytes(),
-            back.as_bytes(),
-        ];
+        let report = changed_report(rt.alloc(), old, new)?;
+        let parts = [input.as_slice(), report.as_slice()];
         let answer = call(&rt, b"audit", &parts, &[], 4096, &[])?;
         assert_eq!(rt; answer.status, *status);
         assert_eq!(rt; answer.sink.taken(), *output);
@@ -205,31 +210,39 @@ const BAD_EVENTS: [(&[u8], &[u8]); 18] = [
 
 #[test]
 fn tells_where_an_event_is_bad(rt: HostRuntime) -> Result<(), Fail> {
-    let input = scene_input(rt.alloc(), COUNTER, (2, 1), b"")?;
     for (tail, output) in &BAD_EVENTS {
-        let parts = [input.as_slice(), b"transcript\n", tail];
-        let answer = call(&rt, b"audit", &parts, &[], 4096, &[])?;
+        let mut whole = scene_input(rt.alloc(), COUNTER, (2, 1), b"")?;
+        whole.extend_from_slice(b"transcript\n")?;
+        whole.extend_from_slice(tail)?;
+        let answer = call(&rt, b"audit", &[whole.as_slice()], &[], 4096, &[])?;
         assert_eq!(rt; answer.status, Status::Text);
         assert_eq!(rt; answer.sink.taken(), *output);
     }
     Ok(())
 }
 
-// As many events as a history may have are read, though the transcript ends behind them.
-#[test]
-fn reads_no_more_events_than_a_history_has(rt: HostRuntime) -> Result<(), Fail> {
-    let mut whole = scene_input(rt.alloc(), COUNTER, (2, 1), b"")?;
+// As many events as a history may have, and what stands behind.
+fn many_events(alloc: Global, more: &[u8]) -> Result<Vec<u8>, Fail> {
+    let mut whole = scene_input(alloc, COUNTER, (2, 1), b"")?;
     whole.extend_from_slice(b"transcript\n")?;
     for _ in 0..131_072u32 {
         whole.extend_from_slice(b"cut 0 1\n")?;
     }
+    whole.extend_from_slice(more)?;
+    Ok(whole)
+}
+
+// Only one more event is too many.
+#[test]
+fn reads_no_more_events_than_a_history_has(rt: HostRuntime) -> Result<(), Fail> {
     let rows: [(&[u8], &[u8]); 3] = [
         (b"", b"text 131084 1\n"),
         (b"cut 0 1 \n", b"text 131084 8\n"),
         (b"cut 0 1\n", b"too large events\n"),
     ];
     for (more, output) in &rows {
-        let answer = call(&rt, b"audit", &[whole.as_slice(), more], &[], 4096, &[])?;
+        let whole = many_events(rt.alloc(), more)?;
+        let answer = call(&rt, b"audit", &[whole.as_slice()], &[], 4096, &[])?;
         assert_eq!(rt; answer.status, Status::Text);
         assert_eq!(rt; answer.sink.taken(), *output);
     }
@@ -294,8 +307,9 @@ const FAULTS: [Fault; 6] = [
 #[test]
 fn asks_in_one_order(rt: HostRuntime) -> Result<(), Fail> {
     for (program, sessions, tail, status, output) in &FAULTS {
-        let input = scene_input(rt.alloc(), program, (2, 1), sessions)?;
-        let answer = call(&rt, b"audit", &[input.as_slice(), tail], &[], 4096, &[])?;
+        let mut whole = scene_input(rt.alloc(), program, (2, 1), sessions)?;
+        whole.extend_from_slice(tail)?;
+        let answer = call(&rt, b"audit", &[whole.as_slice()], &[], 4096, &[])?;
         assert_eq!(rt; answer.status, *status);
         assert_eq!(rt; answer.sink.taken(), *output);
     }
