@@ -2,6 +2,8 @@
 #![tactic(auto)]
 
 mod audit;
+#[cfg(test)]
+mod audit_tests;
 mod call;
 mod check;
 #[cfg(test)]
@@ -12,6 +14,8 @@ mod gen_tests;
 mod laws;
 mod reply;
 mod run;
+#[cfg(test)]
+mod run_tests;
 mod staged;
 mod status;
 mod step;

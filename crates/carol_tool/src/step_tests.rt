@@ -1,5 +1,5 @@
 use super::Status;
-use super::tests::{BANK, FULL, FULL_REPORT, LAST, PLAIN, SESSIONS, call, head};
+use super::tests::{BANK, FULL, FULL_REPORT, LAST, PLAIN, SESSIONS, call, scene_input};
 use std::alloc::Global;
 use std::test::Fail;
 
@@ -297,20 +297,17 @@ end 2
     ),
 ];
 
-// An input: a program, a scene with these numbers of replicas and tries and what stands behind its
-// head, and the end.
+// An input: a program, a scene with these numbers of replicas and tries and these sessions, and a
+// script.
 fn input(
     alloc: Global,
     program: &[u8],
-    (replicas, tries): (u32, u32),
+    numbers: (u32, u32),
     sessions: &[u8],
     script: &[u8],
 ) -> Result<Vec<u8>, Fail> {
-    let scene = head(alloc, replicas, tries)?;
-    let mut whole = Vec::from_slice(alloc, program)?;
-    whole.extend_from_slice(scene.as_bytes())?;
-    whole.extend_from_slice(sessions)?;
-    whole.extend_from_slice(b"end script ")?;
+    let mut whole = scene_input(alloc, program, numbers, sessions)?;
+    whole.extend_from_slice(b"script ")?;
     whole.extend_from_slice(script)?;
     whole.extend_from_slice(LAST)?;
     Ok(whole)

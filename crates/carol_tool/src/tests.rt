@@ -223,6 +223,21 @@ pub(crate) fn head(alloc: Global, replicas: u32, tries: u32) -> Result<String, A
     format!(in alloc; "scene\nreplicas {replicas};\ntries {tries};\nworkers 2;\ngossipers 1;\n")
 }
 
+/// A program, and a scene with these numbers of replicas and tries and these sessions.
+pub(crate) fn scene_input(
+    alloc: Global,
+    program: &[u8],
+    (replicas, tries): (u32, u32),
+    sessions: &[u8],
+) -> Result<Vec<u8>, Fail> {
+    let scene = head(alloc, replicas, tries)?;
+    let mut whole = Vec::from_slice(alloc, program)?;
+    whole.extend_from_slice(scene.as_bytes())?;
+    whole.extend_from_slice(sessions)?;
+    whole.extend_from_slice(b"end\n")?;
+    Ok(whole)
+}
+
 // The bytes with a comment behind each word.
 fn with_comments(alloc: Global, bytes: &[u8]) -> Result<Vec<u8>, Fail> {
     let mut noted = Vec::new(alloc);
