@@ -1,0 +1,16 @@
+//! A disk that may lose what was written since its last sync, and a model of one in memory.
+#![tactic(auto)]
+
+mod call;
+mod disk;
+mod memory;
+mod overlay;
+mod through;
+mod whole;
+
+pub use call::{Call, Piece};
+pub use carol_outer::Failed;
+pub use disk::Disk;
+pub use memory::MemoryDisk;
+pub use through::{cut_through, write_through};
+pub use whole::{WholeError, read_whole};
