@@ -1,3 +1,6 @@
+//! Shortest paths over plain edges with whole-number weights: numbers for the nodes that meet every
+//! edge, or a cycle whose weights sum below 0, which shows that there are none.
+//!
 //! A decision procedure for rows of differences, whose every answer carries its evidence: a
 //! valuation that makes all rows true, or steps that refute them.
 #![tactic(auto)]
@@ -7,14 +10,9 @@ ghost use Rattle.std.specs.List.{All};
 ghost use Rattle.carol_difference.specs.Decision.{IsDecision};
 ghost use Rattle.carol_difference.specs.Rows.{IsDifference, IsFirstOther, IsNarrow};
 
-use carol_cert_rows::StepList;
-use carol_difference_paths::{Paths, potentials_or_cycle};
+use carol_cert::StepList;
 use carol_formula::{ROW_LIMIT, Row, Valuation};
 use std::alloc::{AllocError, Global};
-
-mod evidence;
-mod graph;
-mod sides;
 
 /// Whether rows can be true together.
 #[derive(Debug, Drop)]
@@ -105,5 +103,12 @@ fn decided(alloc: Global, rows: &[Row]) -> Result<DiffAnswer, AllocError>
     }
 }
 
+mod evidence;
+mod forest;
+mod graph;
+mod paths;
+mod sides;
 #[cfg(test)]
 mod tests;
+
+pub use paths::{Edge, Paths, potentials_or_cycle};

@@ -1,0 +1,23 @@
+//! The grammar of the language over its tokens, a rule at a time, and its laws.
+//!
+//! `specs/Rules` has the rules in the order of the language's description, each with the tree that
+//! it gives. A look at the next token decides how to read on; so no list of tokens has two trees,
+//! and reading tells a file's tree, or the first token at which no file goes on.
+ghost use Rattle.std.specs.Prelude.{◌≡◌, ℕ, List};
+ghost use Rattle.carol_grammar.specs.Found.{Answers};
+ghost use Rattle.carol_syntax.specs.Files.{FileTree};
+ghost use Rattle.carol_syntax.specs.declared.lexeme.Lexeme.{Lexeme};
+ghost use Rattle.carol_grammar.specs.Rules.{carol, file, IsFileOf, read_file};
+
+/// The tokens of a text have at most one tree.
+pub fn one_tree()
+    ensures { (bytes : List ℕ) (tail : ℕ) (ts : List Lexeme) (f g : FileTree)
+        → IsFileOf bytes tail ts f → IsFileOf bytes tail ts g → f ≡ g }
+{}
+
+/// Reading by the rules finds the tree of the tokens, where they are a file, and nothing but it.
+/// Else it stops where the tokens before it begin a file and no file goes on with the next one.
+pub fn reading_answers()
+    ensures { (bytes : List ℕ) (tail : ℕ) (ts : List Lexeme)
+        → Answers (carol bytes) (file bytes tail) ts (read_file bytes tail ts) }
+{}
