@@ -1,9 +1,7 @@
-//! What the places of a program and the variables there are called, and the lines that show numbers
-//! for them, as bytes.
+//! Whether a program is accepted, and the texts of that: of an accepted program its accords, of a
+//! refusal its place and the numbers that show it.
 //!
-//! The text of an accepted program: the accords of its guards, as bytes.
-//!
-//! Whether a program is accepted, and the text of a refusal.
+//! Layer: checker. `accept` and the texts are called by the program.
 #![tactic(auto)]
 
 mod check;

@@ -1,10 +1,7 @@
-//! The audit of a list of events: a house with these, or the first that may not come.
+//! The audit of a transcript: its events are read and let into a house, up to the first that may
+//! not come, and the house's report is compared with it, line by line.
 //!
-//! The tail of a transcript: its events, and the first line that differs from the report's.
-//!
-//! What numbers the events of a history have: those that their texts have room for.
-//!
-//! The audit of a transcript's tail: its events, and the lines behind them.
+//! Layer: machine. Called by the program for `audit`.
 #![tactic(auto)]
 
 mod compare;

@@ -1,7 +1,8 @@
-//! Rows that follow from the comparisons at a place of a refutation, and the steps that make them.
+//! Refutations: trees that show that a formula, or a list of formulas, is never true, the rows that
+//! their steps make of the comparisons at a place, and their check.
 //!
-//! Refutations: trees that show that a formula, or a list of formulas, is never true, and their
-//! check.
+//! Layer: solver. Called by the decision procedures, and by `carol_decide`, which tests what they
+//! answer.
 #![tactic(auto)]
 
 mod block;

@@ -1,8 +1,8 @@
-//! Shortest paths over plain edges with whole-number weights: numbers for the nodes that meet every
-//! edge, or a cycle whose weights sum below 0, which shows that there are none.
-//!
 //! A decision procedure for rows of differences, whose every answer carries its evidence: a
-//! valuation that makes all rows true, or steps that refute them.
+//! valuation that makes all rows true, or steps that refute them. Below it are shortest paths over
+//! plain edges.
+//!
+//! Layer: solver. Called by `carol_decide` where all rows are differences.
 #![tactic(auto)]
 
 ghost use Rattle.std.specs.Prelude.{◌≡◌, ℕ, ◌^◌, ◌≤◌, ◌↔◌, length, IfNone, IfOk, IfSome, IsTrue, OnOk};

@@ -1,6 +1,7 @@
-//! Linear terms, comparisons of them with zero, and formulas made of these.
+//! Linear terms, comparisons of them with zero, formulas made of these, their truth, and renaming:
+//! a term or a formula with a term in place of each variable, all at once.
 //!
-//! Renaming: a term or a formula with a term in place of each variable, all at once.
+//! Layer: solver. Called by all that makes, decides or shows formulas.
 #![tactic(auto)]
 
 mod boxed;

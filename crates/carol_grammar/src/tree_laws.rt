@@ -1,8 +1,4 @@
-//! The grammar of the language over its tokens, a rule at a time, and its laws.
-//!
-//! `specs/Rules` has the rules in the order of the language's description, each with the tree that
-//! it gives. A look at the next token decides how to read on; so no list of tokens has two trees,
-//! and reading tells a file's tree, or the first token at which no file goes on.
+//! The laws of the grammar: one tree, and what reading tells.
 ghost use Rattle.std.specs.Prelude.{◌≡◌, ℕ, List};
 ghost use Rattle.carol_grammar.specs.Found.{Answers};
 ghost use Rattle.carol_syntax.specs.Files.{FileTree};

@@ -1,9 +1,9 @@
-//! Steps that close a list of rows, as a leaf of a refutation: over the claims that the rows stand
-//! for, and without the steps that the last row doesn't need.
-//!
 //! A decision procedure for rows of whole numbers: elimination of variables, values for them, and
 //! branches where a variable has no whole number between its bounds. Each answer carries its
-//! evidence.
+//! evidence. What closes rows is a leaf over the claims that the rows stand for, without the steps
+//! that the last row doesn't need.
+//!
+//! Layer: solver. Called by `carol_decide`.
 #![tactic(auto)]
 
 ghost use Rattle.std.specs.Prelude.{◌≡◌, ℕ, ◌≤◌, ◌^◌, List, length, map, IfOk};

@@ -2,15 +2,10 @@
 //!
 //! `specs/` says each in definitions of its own: the faults of a program as a list, one small
 //! definition for each rule, and apart from them the program that a tree stands for, which is total
-//! and says nothing where there is a fault.
+//! and says nothing where there is a fault. That a tree without faults stands for a well-formed
+//! program is the clause of `resolve_laws`; its proof follows the parts of a program.
 //!
-//! What holds of the program that a tree stands for.
-//!
-//! The law stands in `specs/`, and its proof in `proofs/`: `Terms` has terms and formulas over any
-//! way to look a value up, `Cells` and `Looks` the ways that there are, `Issues`, `Orders` and
-//! `Bodies` the parts of a body, `Operations` an operation with its names, and `Programs` the
-//! whole. A crate above cites `faultless_is_well_formed` of the last. There is no code here that
-//! does anything.
+//! Layer: names. Cited by `carol_names` and `carol_resolve`, whose promises speak of it.
 #![tactic(auto)]
 
 mod fault;

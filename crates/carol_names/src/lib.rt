@@ -1,13 +1,9 @@
-//! The first of a program's faults, names that are declared, and what paths of cells name.
+//! Names and what they stand for outside of operations: the first of a program's faults, names that
+//! are declared, the cells with their kinds and starts, what paths of cells name, and terms and
+//! formulas in normal form over any way to look values up: in the invariant, in a guard, at a place
+//! of an operation.
 //!
-//! The cells that a program declares: their kinds, what they start with, and what they are called.
-//!
-//! Terms and formulas of a file as terms and formulas over numbered variables, with what is wrong
-//! with them.
-//!
-//! What a value stands for is up to a `Ground`: the invariant, a guard, or a place of an operation.
-//!
-//! What the values of the invariant and of guards are.
+//! Layer: names. Called by `carol_resolve` alone.
 #![tactic(auto)]
 
 mod arithmetic;

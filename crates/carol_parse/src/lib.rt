@@ -1,11 +1,10 @@
-//! Readers of cells, statements and bodies, guards, operations and programs.
-//!
-//! Readers of scenes, of their sessions and commands, and of scripts.
-//!
 //! Texts and trees: `tokens` cuts a text, `parse` reads it, `print` writes a tree.
 //!
 //! A text is cut into tokens, these are counted against the limits, and those up to the first limit
-//! are read by the rules of the grammar.
+//! are read by the rules of the grammar: readers of programs and of scenes stand here, those of
+//! formulas in `carol_reader`.
+//!
+//! Layer: language. `parse` is called by the program for every text that it reads.
 #![tactic(auto)]
 
 mod bodies;

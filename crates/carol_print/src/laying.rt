@@ -1,5 +1,4 @@
-//! The canonical text of a file: what it is made of, that it is laid out, and that it is cut again
-//! into what it was made of.
+//! The canonical text of a file is laid out, and cut again into what it was made of.
 ghost use Rattle.std.specs.Prelude.{List};
 ghost use Rattle.carol_syntax.specs.Files.{FileTree};
 ghost use Rattle.carol_syntax.specs.Shape.{IsFile};

@@ -1,13 +1,7 @@
-//! The canonical text of a file: what it is made of, that it is laid out, and that it is cut again
-//! into what it was made of.
+//! The canonical text of a file, printed: what it is made of, that it is laid out, that it is cut
+//! again into what it was made of, and that its tokens are that file again.
 //!
-//! The canonical text of a file spells tokens that are that file again.
-//!
-//! `specs/Spelled` has the law. Its proof follows the rules of the grammar in their order: at the
-//! front of the tokens that a part of the canonical text spells stands a sentence of the part's
-//! rule, whose value is the part but for places.
-//!
-//! The canonical text of a file, printed.
+//! Layer: language. `print` is re-exported by `carol_parse`; no word of the program calls it.
 #![tactic(auto)]
 
 mod bodies;

@@ -1,8 +1,7 @@
-//! The canonical text of a file spells tokens that are that file again.
-//!
-//! `specs/Spelled` has the law. Its proof follows the rules of the grammar in their order: at the
-//! front of the tokens that a part of the canonical text spells stands a sentence of the part's
-//! rule, whose value is the part but for places.
+//! The canonical text of a file spells tokens that are that file again: the law. Its proof follows
+//! the rules of the grammar in their order, in the files `Read..`: at the front of the tokens that
+//! a part of the canonical text spells stands a sentence of the part's rule, whose value is the
+//! part but for places.
 ghost use Rattle.carol_print.specs.Spelled.{CanonicalIsRead};
 
 /// The tokens that a file's canonical text spells are a file with the same tree, but for places and

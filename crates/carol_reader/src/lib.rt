@@ -1,9 +1,10 @@
-//! Readers of the grammar's smallest rules, and what every reader of a rule promises.
+//! Readers of the smallest rules of the grammar, of lists, terms and formulas, and what every
+//! reader of a rule promises.
 //!
 //! A reader takes the tokens from a place on, and gives what its rule gives there: the tree and the
 //! tokens behind it, or the tokens from the first on with which the rule does not go on.
 //!
-//! Readers of terms and formulas.
+//! Layer: language. Called by `carol_parse` alone.
 #![tactic(auto)]
 
 mod formulas;

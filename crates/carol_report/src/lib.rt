@@ -1,11 +1,7 @@
-//! What a house came to, in a few lines: how many commands, events, entries and refusals it has,
-//! and its global store.
+//! What is said of a house, and how it is led: its report, a summary in a few lines, a script that
+//! is carried out up to the first statement that gives no event, and sessions that go on in turn.
 //!
-//! Scripts: a house goes on as the statements say, up to the first that gives no event.
-//!
-//! Sessions that go on in turn, until all their commands are done.
-//!
-//! The report of a house: its events, how its commands came out, and its stores, as a text.
+//! Layer: machine. Called by the program, and by `carol_audit`.
 #![tactic(auto)]
 
 mod laws;

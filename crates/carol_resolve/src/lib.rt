@@ -1,17 +1,11 @@
-//! What the names of an operation stand for at a place of it, and what the values are there.
-//!
-//! The steps that a body of statements stands for, and what is wrong with it.
-//!
-//! One pass notes the faults and makes the steps. It loops along the statements, of which there may
-//! be thousands, and recurses only into the branches of an `if`.
-//!
-//! One operation of a file: the names that it declares, what its refinements and its body mean, and
-//! what is wrong with it.
-//!
 //! The program that a file stands for, or the first thing that is wrong with its names.
 //!
 //! The whole file is looked through, past what is wrong with it, and the program is built on the
-//! way. Where something is wrong nothing is kept but the first fault.
+//! way. One pass over a body notes the faults and makes the steps: it loops along the statements,
+//! of which there may be thousands, and recurses only into the branches of an `if`. Where something
+//! is wrong nothing is kept but the first fault.
+//!
+//! Layer: names. `resolve` is called by the program for every program that is read.
 #![tactic(auto)]
 
 mod around;

@@ -1,11 +1,12 @@
-//! The tree of a file, as the grammar gives it.
+//! The tree of a file, and what a text is cut into: names, numbers, symbols and keywords, each with
+//! its place.
 //!
 //! A list is the kit's `Items`, seen as the list of its items, and a part that leads back to its
 //! own type stands in the kit's `Boxed`, seen as what it holds: so a tree is plain data to a
 //! contract. Formulas and bodies reach themselves; `specs/` has each of them once more as plain
 //! data, for definitions that recurse.
 //!
-//! What a text is cut into: names, numbers, symbols and keywords, each with its place.
+//! Layer: language. Called by the readers, the printer, and all that goes over trees.
 #![tactic(auto)]
 
 mod bodies;
