@@ -14,8 +14,8 @@ use Rattle.carol_formula.specs.Linear.{constant_of, variable_of, difference_of}
 use Rattle.carol_formula.specs.Value.{value_at}
 use Rattle.carol_formula.proofs.Claims.{at_most_zero, is_at_most_zero_from}
 use Rattle.carol_formula.proofs.Sums.{value_at-sum_of, value_at-difference_of}
-use Rattle.carol_renaming.specs.Named.{named_claim, through}
-use Rattle.carol_renaming.proofs.Renaming.{truth-named_claim}
+use Rattle.carol_formula.specs.Named.{named_claim, through}
+use Rattle.carol_formula.proofs.Renamings.{truth-named_claim}
 use Rattle.carol_program.specs.Preserving.{Preserves}
 use Rattle.carol_program.specs.Rules.{Rules}
 use Rattle.carol_program.specs.Variables.{number_in, number_in_two, there_variable}

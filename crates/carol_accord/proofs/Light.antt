@@ -10,8 +10,8 @@ use Rattle.carol_formula.specs.Claim.{Claim, True, False, Le, Eq, Ne, And, Or, N
 use Rattle.carol_formula.specs.Linear.{Linear, IsWithin, difference_of, variable_of, constant_of}
 use Rattle.carol_formula.specs.Weight.{mass, weight}
 use Rattle.carol_formula.proofs.Weights.{weight-sum_of, weight-difference_of, IsWithin-weight}
-use Rattle.carol_renaming.specs.Named.{AllNamed, IsNameable, IsNameableClaim, named_mass, named_weight, named_claim}
-use Rattle.carol_renaming.proofs.Renaming.{weight-named_claim}
+use Rattle.carol_formula.specs.Named.{AllNamed, IsNameable, IsNameableClaim, named_mass, named_weight, named_claim}
+use Rattle.carol_formula.proofs.Renamings.{weight-named_claim}
 use Rattle.carol_program.specs.Variables.{guard_variables, there_variable}
 use Rattle.carol_program.specs.WellFormed.{AreSmall, IsTermOver, nodes}
 use Rattle.carol_decide.specs.Sizes.{nodes_of}

@@ -4,6 +4,8 @@
 //!
 //! Each question is a formula that is true of exactly the stores at which the answer is no. So a
 //! refutation is a yes, and a valuation is a no that shows two stores.
+//!
+//! Layer: checker. Called by `carol_accept`.
 #![tactic(auto)]
 
 ghost use Rattle.std.specs.Prelude.{IfOk, IfErr};

@@ -1,4 +1,6 @@
 //! A disk that may lose what was written since its last sync, and a model of one in memory.
+//!
+//! Layer: disk. The vault keeps a history on it.
 #![tactic(auto)]
 
 mod call;

@@ -4,6 +4,8 @@
 //! `specs/` has a topic a file: journals and stores, links, what a session did, which event may
 //! come next, runs, the reading over one store, results, the one event that a session goes on with,
 //! what a script comes to, and the bound on events.
+//!
+//! Layer: machine. Cited by all that speaks of histories.
 #![tactic(auto)]
 
 mod history;

@@ -9,15 +9,15 @@ use Rattle.carol_formula.specs.Claim.{Claim, True, False, Le, Eq, Ne, And, Or, N
 use Rattle.carol_formula.specs.Linear.{Linear, IsWithin, difference_of, variable_of}
 use Rattle.carol_formula.specs.Weight.{mass, weight}
 use Rattle.carol_formula.proofs.Weights.{weight-difference_of, weight-sum_of, IsWithin-weight}
-use Rattle.carol_renaming.specs.Named.{AllNamed, IsNameable, IsNameableClaim, named_mass, named_weight}
+use Rattle.carol_formula.specs.Named.{AllNamed, IsNameable, IsNameableClaim, named_mass, named_weight}
 use Rattle.carol_program.specs.declared.steps.Part.{Part}
 use Rattle.carol_program.specs.Rules.{Rules}
 use Rattle.carol_program.specs.Limits.{most_queries, most_statements}
 use Rattle.carol_program.specs.Variables.{IsAmong, AreAmong, guard_variables, invariant_variables, outcome_variables}
 use Rattle.carol_program.specs.WellFormed.{AreRules, AreSmall, IsTermOver, IsPartOver}
 use Rattle.carol_reading.specs.Readings.{amount_for}
-use Rattle.carol_obligation_sites.specs.Decoded.{round_variable}
-use Rattle.carol_obligation_sites.specs.Formed.{round_name, guard_name, done_name, cell_name, after_name, result_name}
+use Rattle.carol_obligation.specs.Decoded.{round_variable}
+use Rattle.carol_obligation.specs.Formed.{round_name, guard_name, done_name, cell_name, after_name, result_name}
 use Rattle.carol_obligation.specs.Budget.{AreLightParts, amount_limit}
 
 pub IsWithin-difference : (limit : ℕ) (s t : Linear) → weight s + weight t < limit → IsWithin limit (difference_of s t)

@@ -8,16 +8,16 @@ use Rattle.carol_formula.specs.Claim.{Claim, True, False, Le, Eq, Ne, And, Or, N
 use Rattle.carol_formula.specs.Linear.{Linear, constant_of, variable_of}
 use Rattle.carol_formula.specs.Weight.{weight}
 use Rattle.carol_formula.proofs.Weights.{weight-difference_of, weight-sum_of}
-use Rattle.carol_renaming.specs.Named.{named_claim, named_term}
-use Rattle.carol_renaming.proofs.Renaming.{weight-named_term}
+use Rattle.carol_formula.specs.Named.{named_claim, named_term}
+use Rattle.carol_formula.proofs.Renamings.{weight-named_term}
 use Rattle.carol_program.specs.declared.steps.Part.{Part}
 use Rattle.carol_program.specs.Rules.{Rules, OpRules}
 use Rattle.carol_program.specs.WellFormed.{nodes, AreRules, IsTermOver, IsFormulaOver}
 use Rattle.carol_program.specs.Limits.{most_cells, most_queries, most_statements}
 use Rattle.carol_program.specs.Variables.{guard_variables, invariant_variables, outcome_variables, query_variable}
-use Rattle.carol_obligation_sites.specs.Decoded.{round_variable}
-use Rattle.carol_obligation_sites.specs.Sites.{Ending, Amount, After, Gives}
-use Rattle.carol_obligation_sites.specs.Formed.{at_most, with_flags, with_round, with_query, guard_at, with_test, too_large, tie, with_tie, with_ties, broken, owed, round_name, guard_name, after_name, result_name}
+use Rattle.carol_obligation.specs.Decoded.{round_variable}
+use Rattle.carol_obligation.specs.Sites.{Ending, Amount, After, Gives}
+use Rattle.carol_obligation.specs.Formed.{at_most, with_flags, with_round, with_query, guard_at, with_test, too_large, tie, with_tie, with_ties, broken, owed, round_name, guard_name, after_name, result_name}
 use Rattle.carol_obligation.specs.Budget.{light_limit, amount_limit, IsLightTerm, IsLight, IsDecidable, AreLightParts, AreSmallParts, round_nodes, test_nodes}
 use Rattle.carol_obligation.proofs.Light.{HaveNames, light_term, named_light, round_named, guard_named, after_named, result_named}
 

@@ -4,6 +4,8 @@
 //! Cells, guards, operations, parameters and queries are numbers here; `Names` keeps what they are
 //! called. `specs/` has the program once more as plain data (`Rules`), and says which programs are
 //! well formed and which scenes are valid.
+//!
+//! Layer: names. All that stands above names and numbers stands on it.
 #![tactic(auto)]
 
 mod accords;

@@ -1,4 +1,7 @@
 //! The sequential reading of operations: the marks that they may leave, and what may be trusted.
+//!
+//! Layer: checker. Cited by all that says what a program may do; `next_action` is called by
+//! `carol_machine`.
 #![tactic(auto)]
 
 mod accepted;

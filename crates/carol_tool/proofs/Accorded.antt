@@ -8,7 +8,7 @@ use Rattle.std.proofs.lemmas.Option.{slice_get_cases, slice_get_within}
 use Rattle.carol_store.specs.declared.shape.CellKind.{CellKind}
 use Rattle.carol_store.specs.declared.shape.CellKind.TheVariants.{Counter, Peak, Flag}
 use Rattle.carol_formula.specs.Claim.{Claim}
-use Rattle.carol_place_texts.specs.Named.{name_at}
+use Rattle.carol_accept.specs.Named.{name_at}
 use Rattle.carol_program.specs.declared.accords.Entry.{Entry}
 use Rattle.carol_program.specs.declared.accords.Entry.TheVariants.{Yes, No}
 use Rattle.carol_program.specs.declared.names.Names.{Names}
@@ -17,7 +17,7 @@ use Rattle.carol_program.specs.Preserving.{IsRight}
 use Rattle.carol_program.specs.Rules.{Rules, guard_claim, rules_in}
 use Rattle.carol_program.proofs.Ways.{place_of-within}
 use Rattle.carol_reading.specs.Kept.{Kept}
-use Rattle.carol_report_accords.specs.Texts.{accord_text, answer_word, cell_text, cells_text, guard_text, guards_text, line_feed, way_text, way_word}
+use Rattle.carol_accept.specs.Texts.{accord_text, answer_word, cell_text, cells_text, guard_text, guards_text, line_feed, way_text, way_word}
 
 -- the table is right, and has an entry for each guard and way
 pub record IsWhole (kinds : List CellKind) (guards : List Claim) (table : Accords) : Type 0 where

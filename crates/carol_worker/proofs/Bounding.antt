@@ -1,6 +1,6 @@
 -- How long the history of a run scene is, and that nobody is refused behind an entry in it.
 use Rattle.std.proofs.Common.{◌≤◌, ◌+◌, length, sym, subst, ap, arith}
-use Rattle.carol_bound.specs.Laws.{NobodyIsBehind, RunsAreShort}
+use Rattle.carol_simulation.specs.Laws.{NobodyIsBehind, RunsAreShort}
 use Rattle.carol_history.specs.Bounds.{HasNoCut, HasNoneBehind, links, most_events}
 use Rattle.carol_house.specs.House.{House, IsHistory, rules_of}
 use Rattle.carol_worker.specs.Running.{Continues}

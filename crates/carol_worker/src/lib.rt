@@ -1,5 +1,7 @@
 //! How threads run the sessions of a scene: desks, at which a session takes its steps, and the
 //! roster, from which workers take the sessions.
+//!
+//! Layer: machine. `run_scene` is called by the program for `run`.
 #![tactic(auto)]
 
 mod desk;
