@@ -2,8 +2,8 @@
 use Rattle.std.specs.Prelude.{◌≡◌, ◌≢◌, ℕ, zero, suc, ◌+◌, ◌≤◌, ◌<◌, List, [], ◌∷◌, length, ℤ, pos, unsigned_abs}
 use Rattle.std.specs.List.{AllByRecursion}
 use Rattle.carol_store.specs.declared.shape.CellKind.{CellKind}
-use Rattle.carol_store.specs.declared.shape.CellKind.TheVariants.{Flag}
-use Rattle.carol_store.specs.Kinds.{CellValue}
+use Rattle.carol_store.specs.declared.shape.CellKind.TheVariants.{Counter, Peak, Flag}
+use Rattle.carol_store.specs.Kinds.{CellValue, number_of}
 use Rattle.carol_store.specs.Stores.{IsStore}
 use Rattle.carol_formula.specs.Linear.{Linear, constant_of}
 use Rattle.carol_formula.specs.Claim.{Claim, True, False, Le, Eq, Ne, And, Or, Not, EachTerm}
@@ -52,8 +52,9 @@ pub record IsFormulaOver (ranges : List (ℕ × ℕ)) (c : Claim) : Type 0 where
 
 -- an issue may do this to a cell of this kind: what is done to a flag is the constant 1
 abbrev pub IsDoneTo : CellKind → Linear → Type 0
+IsDoneTo Counter t = Unit {0}
+IsDoneTo Peak t = Unit {0}
 IsDoneTo Flag t = t ≡ constant_of (pos 1)
-IsDoneTo kind t = Unit {0}
 
 -- the shape has the cell, and an issue may do this to it
 abbrev pub IsDoneAt : List CellKind → ℕ → Linear → Type 0
@@ -82,7 +83,7 @@ pub record Setting : Type 0 where
 
 -- the variables of a place behind the queries in these slots
 abbrev pub variables_in : Setting → List ℕ → List (ℕ × ℕ)
-variables_in s slots = body_variables (length s.kinds) s.params slots
+variables_in s slots = body_variables s.kinds s.params slots
 
 -- the parts of an issue
 abbrev pub AreParts : Setting → List ℕ → List Part → Type 0
@@ -163,8 +164,9 @@ pub record IsNamed (p : Rules) (names : Names) : Type 0 where
 
 -- an initial value: a flag's is 0 or 1, as that of any store, and any other is a literal
 abbrev pub StartsSmall : CellKind → CellValue → Type 0
+StartsSmall Counter start = unsigned_abs (number_of start) ≤ largest_literal
+StartsSmall Peak start = unsigned_abs (number_of start) ≤ largest_literal
 StartsSmall Flag start = Unit {0}
-StartsSmall kind start = unsigned_abs start ≤ largest_literal
 
 abbrev pub StartSmall : List CellKind → List CellValue → Type 0
 StartSmall [] starts = Unit {0}
@@ -177,8 +179,8 @@ pub record AreRules (p : Rules) : Type 0 where
   pub few_ops : length p.ops ≤ most_ops
   pub store : IsStore p.shape p.initial
   pub start : StartSmall p.shape p.initial
-  pub invariant : IsFormulaOver (invariant_variables (length p.shape)) p.invariant
-  pub guards : AllByRecursion (IsFormulaOver (guard_variables (length p.shape))) p.guards
+  pub invariant : IsFormulaOver (invariant_variables p.shape) p.invariant
+  pub guards : AllByRecursion (IsFormulaOver (guard_variables p.shape)) p.guards
   pub ops : AllByRecursion (IsOpOver p.shape (length p.guards)) p.ops
 
 pub record IsWellFormed (p : Rules) (names : Names) : Type 0 where
