@@ -10,7 +10,7 @@ use Rattle.carol_formula.specs.Claim.{Claim, True, False, Le, Eq, Ne, And, Or, N
 use Rattle.carol_program.specs.declared.steps.Part.{Part}
 use Rattle.carol_program.specs.declared.names.OpNames.{OpNames}
 use Rattle.carol_program.specs.declared.names.Names.{Names}
-use Rattle.carol_program.specs.Limits.{longest_name, most_cells, most_guards, most_ops, most_params, most_queries, most_statements, most_nodes, most_products, most_depth, largest_coefficient, largest_constant, largest_literal}
+use Rattle.carol_program.specs.Limits.{longest_name, longest_path, most_cells, most_guards, most_ops, most_params, most_queries, most_statements, most_nodes, most_products, most_depth, largest_coefficient, largest_constant, largest_literal}
 use Rattle.carol_program.specs.Bodies.{Body, Query, Issue, Release, Branch, Return, queries_in, last_number, depth}
 use Rattle.carol_program.specs.Rules.{OpRules, Rules}
 use Rattle.carol_program.specs.Variables.{AreAmong, invariant_variables, guard_variables, param_variables, outcome_variables, body_variables}
@@ -153,9 +153,10 @@ AreCalled (op ∷ ops) (names ∷ more) = IsCalled op names × AreCalled ops mor
 AreCalled [] (names ∷ more) = ⊥
 AreCalled (op ∷ ops) [] = ⊥
 
--- one name for each cell, guard and operation; a cell's name may have two words
+-- one name for each cell, guard and operation; a cell's name may have two parts
 pub record IsNamed (p : Rules) (names : Names) : Type 0 where
   pub cells : length names.cells ≡ length p.shape
+  pub short_cells : AllByRecursion (λ name. length name ≤ longest_path) names.cells
   pub guards : length names.guards ≡ length p.guards
   pub short_guards : AreShort names.guards
   pub ops : AreCalled p.ops names.ops
