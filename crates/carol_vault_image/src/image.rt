@@ -20,7 +20,7 @@ pub fn read_image(alloc: Global, bytes: &[u8]) -> Result<Image, AllocError>
 {
     let mut events = Vec::new(alloc);
     let mut end = 0;
-    while let Some(taken) = first_record(alloc, &bytes[end..]) {
+    while let Some(taken) = first_record(alloc, bytes.split_at(end).1) {
         events.push(taken.event)?;
         end += taken.used;
     }
