@@ -5,6 +5,7 @@
 
 mod call;
 mod disk;
+mod gate;
 mod memory;
 mod overlay;
 mod through;
@@ -13,6 +14,7 @@ mod whole;
 pub use call::{Call, Piece};
 pub use carol_outer::Failed;
 pub use disk::Disk;
+pub use gate::{append, settle};
 pub use memory::MemoryDisk;
 pub use through::{cut_through, write_through};
 pub use whole::{WholeError, read_whole};
