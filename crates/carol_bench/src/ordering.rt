@@ -1,34 +1,26 @@
-//! Decides rows of differences of one kind: `carol_difference_bench KIND SIZE`, with KIND one of
-//! chain, cycle and grid, and SIZE the number of variables, at most 2,000.
-#![tactic(auto)]
-
 ghost use Rattle.std.specs.Prelude.{◌^◌, ◌<◌, unsigned_abs};
 
 use anyhow::bail;
 use carol_difference::{DiffAnswer, are_narrow, decide_difference};
 use carol_formula::{Row, Term, TermError, Variable};
 use std::alloc::{AllocError, Global};
-use std::env;
 
 const MOST_VARIABLES: u32 = 2_000;
 
 const MOST_ROWS: usize = 100_000;
 
-fn main(rt: HostRuntime) -> anyhow::Result<()> {
-    let mut words = env::args(&rt)?;
-    let _program = words.next();
-    let (Some(kind), Some(size)) = (words.next(), words.next()) else {
-        bail!("a kind and a size are wanted");
-    };
-    let size = size.as_str().parse::<u32>()?.min(MOST_VARIABLES);
-    let Ok(rows) = rows_of(rt.alloc(), kind.as_str(), size) else {
+/// Decides rows of differences of one kind, one of chain, cycle and grid, over `size` variables, at
+/// most 2,000.
+pub(crate) fn order(rt: &impl Print, alloc: Global, kind: &str, size: u32) -> anyhow::Result<()> {
+    let size = size.min(MOST_VARIABLES);
+    let Ok(rows) = rows_of(alloc, kind, size) else {
         bail!("no memory");
     };
     let count = rows.len();
     if count > MOST_ROWS || !are_narrow(&rows) {
         bail!("the rows are too many or too wide");
     }
-    let Ok(answer) = decide_difference(rt.alloc(), &rows) else {
+    let Ok(answer) = decide_difference(alloc, &rows) else {
         bail!("no answer");
     };
     match answer {
@@ -47,7 +39,7 @@ fn rows_of(alloc: Global, kind: &str, size: u32) -> Result<Vec<Row>, TermError> 
         "chain" => chain(alloc, &mut rows, size)?,
         "cycle" => {
             chain(alloc, &mut rows, size)?;
-            order(alloc, &mut rows, size.saturating_sub(1), 0, 0)?;
+            place(alloc, &mut rows, size.saturating_sub(1), 0, 0)?;
         }
         _ => grid(alloc, &mut rows, size)?,
     }
@@ -58,7 +50,7 @@ fn rows_of(alloc: Global, kind: &str, size: u32) -> Result<Vec<Row>, TermError> 
 // round lowers one more.
 fn chain(alloc: Global, rows: &mut Vec<Row>, size: u32) -> Result<(), TermError> {
     for high in (1..size).rev() {
-        order(alloc, rows, high - 1, high, 1)?;
+        place(alloc, rows, high - 1, high, 1)?;
     }
     Ok(())
 }
@@ -67,15 +59,15 @@ fn chain(alloc: Global, rows: &mut Vec<Row>, size: u32) -> Result<(), TermError>
 fn grid(alloc: Global, rows: &mut Vec<Row>, size: u32) -> Result<(), TermError> {
     for (distance, gap) in [(1, 2), (39, 5), (40, 7), (41, 11), (80, 13)] {
         for high in distance..size {
-            order(alloc, rows, high - distance, high, gap)?;
-            order(alloc, rows, high, high - distance, -100)?;
+            place(alloc, rows, high - distance, high, gap)?;
+            place(alloc, rows, high, high - distance, -100)?;
         }
     }
     Ok(())
 }
 
 // The variable `high` is at least `low` and the gap.
-fn order(
+fn place(
     alloc: Global,
     rows: &mut Vec<Row>,
     low: u32,

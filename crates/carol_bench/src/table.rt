@@ -1,13 +1,13 @@
 use crate::counts::counts_of;
 use crate::formulas::formula_of;
+use anyhow::bail;
 use carol_cert::check;
 use carol_decide::{Answer, Why, can_decide, decide};
 use carol_formula::Formula;
-use std::alloc::AllocError;
-use std::test::Fail;
+use std::alloc::Global;
 
 // What is to be answered.
-#[derive(Clone, Copy)]
+#[derive(Clone, Copy, Debug)]
 enum Wanted {
     Unsat,
     Sat,
@@ -77,18 +77,19 @@ const ROWS: [(&[u8], u32, Wanted); 12] = [
     ),
 ];
 
-#[test]
-fn answers_with_evidence(rt: HostRuntime) -> Result<(), Fail> {
-    for (steps, leaves, wanted) in &ROWS {
-        let Some(formula) = formula_of(rt.alloc(), steps)? else {
-            return Err(Fail::from(AllocError));
+/// Decides each system of the table, and prints for each what was wanted and whether it was
+/// answered with evidence that is right.
+pub(crate) fn table(rt: &impl Print, alloc: Global) -> anyhow::Result<()> {
+    for (steps, turns, wanted) in &ROWS {
+        let Some(formula) = formula_of(alloc, steps)? else {
+            bail!("the steps make no formula");
         };
-        assert!(rt; can_decide(&formula));
-        if can_decide(&formula) {
-            let leaves = (*leaves).clamp(1, 1_000_000);
-            let answer = decide(rt.alloc(), &formula, leaves)?;
-            assert!(rt; is_right(&formula, leaves, &answer, *wanted));
+        if !can_decide(&formula) {
+            bail!("the formula is too large or too wide");
         }
+        let answer = decide(alloc, &formula, (*turns).clamp(1, 1_000_000))?;
+        let right = is_right(&formula, *turns, &answer, *wanted);
+        println!(rt; "{wanted:?} in {turns}: {right}")?;
     }
     Ok(())
 }

@@ -1,43 +1,35 @@
-//! The verdict of the type check on the program that stands on standard input. With the word
-//! `obligations`: how many formulas are decided, and how many nodes they have.
-#![tactic(auto)]
-
+ghost use Rattle.std.specs.Prelude.{◌≤◌, length};
+ghost use Rattle.carol_syntax.specs.Limits.{most_text_bytes};
 ghost use Rattle.carol_program.specs.Rules.{rules_in};
 ghost use Rattle.carol_program.specs.WellFormed.{AreRules};
 ghost use Rattle.carol_syntax.specs.Files.{program_tree};
 ghost use Rattle.carol_syntax.specs.Shape.{IsProgram};
 ghost use Rattle.carol_syntax.specs.Size.{IsSizedProgram};
 
-mod tally;
-
+use crate::tally::Tally;
 use anyhow::bail;
 use carol_obligation::walk_all;
-use carol_outer::{StdinSource, read_all};
 use carol_parse::{TextError, parse};
 use carol_program::{Names, Place, Program};
 use carol_resolve::{NameError, resolve};
 use carol_syntax::File;
 use carol_typecheck::{Verdict, typecheck};
 use std::alloc::Global;
+use std::str;
 use std::thread::Threads;
-use std::{env, str};
-use tally::Tally;
 
-const MOST_BYTES: usize = 67_108_864;
-
-fn main(rt: HostRuntime) -> anyhow::Result<()> {
-    let mut words = env::args(&rt)?;
-    let _program = words.next();
-    let only_counts = words.next().is_some();
-    let mut source = StdinSource::new(rt.reader());
-    let Ok(bytes) = read_all(rt.alloc(), &mut source, MOST_BYTES) else {
-        bail!("no input");
-    };
-    if bytes.len() > MOST_BYTES {
-        bail!("the input is too long");
-    }
-    match parse(rt.alloc(), &bytes) {
-        Ok(file) => resolved(&rt, rt.alloc(), &file, only_counts),
+/// The verdict of the type check on the program of the text, or, with `only_counts`, what it has to
+/// decide. The text has at most 67,108,864 bytes.
+pub(crate) fn checked<R: Print + Threads + Sync>(
+    rt: &R,
+    alloc: Global,
+    bytes: &[u8],
+    only_counts: bool,
+) -> anyhow::Result<()>
+    requires { length bytes.now ≤ most_text_bytes }
+{
+    match parse(alloc, bytes) {
+        Ok(file) => resolved(rt, alloc, &file, only_counts),
         Err(TextError::Bad { line, column }) => {
             println!(rt; "text {line} {column}")?;
             Ok(())
