@@ -22,6 +22,7 @@ pub mod Exact
 pub mod Light
 pub mod Sizes
 pub mod Steps
+pub mod Spots
 mod PartTerms
 mod Loops
 mod Gathering
