@@ -23,6 +23,7 @@ pub mod Light
 pub mod Sizes
 pub mod Steps
 pub mod Spots
+pub mod Alike
 mod PartTerms
 mod Loops
 mod Gathering
