@@ -1,6 +1,7 @@
 -- The formulas of all places of operations.
 use Rattle.std.proofs.Common.{◌≡◌, ℕ, ◌+◌, ◌≤◌, Result, Ok, Err, List, [], ◌∷◌, ◌++◌, length, arith, refl, sym, ◌∙◌, ap, subst}
-use Rattle.std.specs.Prelude.{ℤ, map, false}
+use Rattle.std.specs.Prelude.{ℤ, map, false, OnOk}
+use Rattle.std.specs.declared.alloc.AllocError.{AllocError}
 use Rattle.std.specs.List.{AllByRecursion, AllZip}
 use Rattle.std.proofs.lemmas.List.{map-append}
 use Rattle.carol_formula.specs.Claim.{Claim, truth, without_not}
@@ -87,3 +88,7 @@ kept_more old new o taken is one kept = record {
   same = ap owed_in is ∙ map-append owed_of old (o ∷ []) ∙ ap (λ list. list ++ owed_of o ∷ []) kept.same;
   decidable = subst AreDecidable (sym is) (all-append (λ x. IsDecidable (claim_of x.formula)) old (o ∷ []) kept.decidable (one, tt));
 }
+
+pub kept_pushed : (r : Result (Unit {0}) AllocError) (old new : List Obligation) (o : Obligation) → IsDecidable (claim_of o.formula) → OnOk r (new ≡ old ++ o ∷ []) → OnOk r ((taken : List (Place × Claim)) → AreKept old taken → AreKept new (taken ++ owed_of o ∷ []))
+kept_pushed (Ok u) old new o one pushed = λ taken kept. kept_more old new o taken pushed one kept
+kept_pushed (Err e) old new o one pushed = tt
