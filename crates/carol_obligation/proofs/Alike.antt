@@ -13,14 +13,14 @@ use Rattle.carol_formula.specs.Value.{value_at, set_at}
 use Rattle.carol_program.specs.declared.steps.Part.{Part}
 use Rattle.carol_program.specs.Bodies.{Body, Query, Issue, Release, Branch, Return}
 use Rattle.carol_program.specs.Rules.{Rules, OpRules}
-use Rattle.carol_program.specs.Variables.{IsAmong, number_in, number_of_args, param_variable, query_variable, result_variable}
+use Rattle.carol_program.specs.Variables.{IsAmong, number_in, number_of_args, param_variable, query_variable, result_variable, store_at}
 use Rattle.carol_program.specs.WellFormed.{IsFitBody, IsFormulaOver, IsPartOver, IsTermOver}
 use Rattle.carol_reading.specs.Marks.{Mark, Asked, Issued, Released}
 use Rattle.carol_reading.specs.Readings.{effect_of}
 use Rattle.carol_reading.specs.Good.{IsReading}
 use Rattle.carol_obligation.specs.Ways.{Way, Asks, Puts, Frees, Tests, rounds_of, has_query}
 use Rattle.carol_obligation.specs.Sites.{Ending, Amount, After, Gives, Site, amount_site, amount_sites, sites}
-use Rattle.carol_obligation.specs.Decoded.{round_variable, store_at, args_from, args_at, marks_at, open_at, closed_at, ended_at, TestsGo}
+use Rattle.carol_obligation.specs.Decoded.{round_variable, args_from, args_at, marks_at, open_at, closed_at, ended_at, TestsGo}
 use Rattle.carol_obligation.specs.Breaches.{after_at, HasTies, Breaks, IsReadingAlong, IsBreach}
 use Rattle.carol_obligation.proofs.Agreeing.{AgreeOn, effect_of-same, truth-same, value_at-same}
 use Rattle.carol_obligation.proofs.Each.{all-append}
