@@ -1,14 +1,14 @@
 -- A file has one reading.
-use Rattle.std.proofs.Common.{◌≡◌, ◌≢◌, ◌⊎◌, ℕ, zero, suc, ◌+◌, ◌*◌, ◌/◌, ◌%◌, ◌≤◌, ◌<◌, List, [], ◌∷◌, ◌++◌, length, take, drop, refl, sym, ◌∙◌, ap, inl, inr, arith, append_assoc, append-nil, length-append, length-drop}
+use Rattle.std.proofs.Common.{◌≡◌, ℕ, ◌+◌, ◌/◌, ◌%◌, ◌≤◌, List, [], ◌∷◌, ◌++◌, length, take, drop, refl, sym, ◌∙◌, ap, arith, append_assoc, append-nil, length-append, length-drop}
 use Rattle.std.proofs.lemmas.List.{take_at, drop_at, drop-drop, same_from_push}
-use Rattle.std.specs.Prelude.{Result, Ok, Err}
+use Rattle.std.specs.Prelude.{Ok}
 use Rattle.carol_event.specs.declared.event.Event.{Event}
 use Rattle.carol_event.specs.Lines.{event_at}
 use Rattle.carol_event.specs.Numbers.{Each, HasNumbers}
 use Rattle.carol_event.specs.Texts.{event_line, event_text}
 use Rattle.carol_event.proofs.RoundTrip.{event_again}
-use Rattle.carol_vault_image.specs.Records.{BeginsNoRecord, IsRead, IsShut, Shows, body_of, record_of, records}
-use Rattle.carol_vault_image.proofs.Sizes.{short_line}
+use Rattle.carol_disk.specs.Gates.{IsShut}
+use Rattle.carol_vault_image.specs.Records.{BeginsNoRecord, IsRead, record_of, records}
 
 -- the parts of a list at a number's length
 parts : (xs ys left right : List ℕ) → length xs ≡ length ys → xs ++ left ≡ ys ++ right → (xs ≡ ys) × (left ≡ right)
@@ -44,10 +44,10 @@ one_reading file (event ∷ events) [] end rest read again =
     absurd (again.last event (records events ++ end) read.fit.0 (sym again.are ∙ read.are ∙ append_assoc (record_of event) (records events) end))
 one_reading file (event ∷ events) (other ∷ others) end rest read again =
     let first = one_record event other (records events ++ end) (records others ++ rest) read.fit.0 again.fit.0
-        (sym (append_assoc (record_of event) (records events) end) ∙ sym read.are ∙ again.are ∙ append_assoc (record_of other) (records others) rest) in
+    (sym (append_assoc (record_of event) (records events) end) ∙ sym read.are ∙ again.are ∙ append_assoc (record_of other) (records others) rest) in
     let more = one_reading (records events ++ end) events others end rest
-        (record { are = refl; fit = read.fit.1; last = read.last })
-        (record { are = first.1; fit = again.fit.1; last = again.last }) in
+    (record { are = refl; fit = read.fit.1; last = read.last })
+    (record { are = first.1; fit = again.fit.1; last = again.last }) in
     let same : event ≡ other = first.0 in
     let rest_same : events ≡ others = more.0 in
     (cc, more.1)

@@ -1,5 +1,6 @@
 -- How events lie in a file: each behind an open gate, and a shut gate behind the last.
-use Rattle.std.specs.Prelude.{◌≡◌, ◌≢◌, ◌⊎◌, ℕ, ◌≤◌, ◌/◌, ◌%◌, List, [], ◌∷◌, ◌++◌, length, drop}
+use Rattle.std.specs.Prelude.{◌≡◌, ℕ, ◌/◌, ◌%◌, List, [], ◌∷◌, ◌++◌, length, drop}
+use Rattle.carol_disk.specs.Gates.{EndsBehind}
 use Rattle.carol_event.specs.declared.event.Event.{Event}
 use Rattle.carol_event.specs.Numbers.{Each, HasNumbers}
 use Rattle.carol_event.specs.Texts.{event_line}
@@ -21,17 +22,10 @@ abbrev pub records : List Event → List ℕ
 records [] = []
 records (event ∷ events) = record_of event ++ records events
 
--- a shut gate stands in front
-abbrev pub IsShut : List ℕ → Type 0
-IsShut [] = ⊥
-IsShut (gate ∷ more) = gate ≢ 1
-
 -- the file is the records of the events, a shut gate, and whatever stands behind it; or there are
 -- none, and it has at most one byte
 abbrev pub Shows : List ℕ → List Event → Type 0
-Shows file events =
-    ((end : List ℕ) × (file ≡ records events ++ end) × IsShut end)
-    ⊎ ((events ≡ []) × (length file ≤ 1))
+Shows file events = EndsBehind (records events) file
 
 -- no whole record stands in front
 abbrev pub BeginsNoRecord : List ℕ → Type 0

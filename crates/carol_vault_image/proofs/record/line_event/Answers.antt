@@ -8,6 +8,6 @@ whole line text last event are feed is = cc
 
 pub returns-in-Ok-clause-event : goal.returns-in-Ok-clause-event
 returns-in-Ok-clause-event c = (
-  c.in-Ok.ensures.found.0,
-  whole c.args.line.now c.in_ok-last.text.now c.in_ok-last.last.now c.in-Ok.event c.in_ok-last.ensures.cases.0 c.if-last-ne10.false c.in-Ok.ensures.found.1,
+  c.in-Ok.ensures.numbers,
+  whole c.args.line.now c.in_ok-last.text.now c.in_ok-last.last.now c.in-Ok.event c.in_ok-last.ensures.cases.0 c.if-last-ne10.false c.in-Ok.ensures.found,
 )
