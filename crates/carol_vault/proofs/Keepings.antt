@@ -1,0 +1,93 @@
+-- What a disk keeps while an event is put behind the others.
+use Rattle.std.proofs.Common.{◌≡◌, ◌⊎◌, ◌≤◌, ◌<◌, ℕ, ◌+◌, ◌-◌, List, [], ◌∷◌, ◌++◌, length, take, drop, refl, sym, ◌∙◌, ap, subst, inl, inr, ⊎_elim, arith, length-append, take-append-drop}
+use Rattle.std.specs.Prelude.{reverse}
+use Rattle.std.proofs.lemmas.List.{length-reverse, reverse-append, take_all, take_at}
+use Rattle.carol_event.specs.declared.event.Event.{Event}
+use Rattle.carol_house.specs.House.{House, Enters}
+use Rattle.carol_disk.specs.Gates.{GrowsBy}
+use Rattle.carol_vault_image.specs.Records.{Shows, body_of, records}
+use Rattle.carol_vault_image.proofs.Keeping.{Gated, gated_more, shows_more}
+use Rattle.carol_vault.specs.Vaults.{Holds, IsKept, IsReady, events_of}
+
+pub length-events_of : (house : House) → length (events_of house) ≡ length house.history
+length-events_of house = length-reverse house.history
+
+-- one event more
+pub events_more : (old new : House) (event : Event) → Enters old event new → events_of new ≡ events_of old ++ event ∷ []
+events_more old new event enters = ap reverse enters.history ∙ reverse-append (event ∷ []) old.history
+
+-- a file that shows the whole history
+pub holds_all : (house : House) (c : List ℕ) → Shows c (events_of house) → Holds (length house.history) house c
+holds_all house c shows = record {
+  count = length house.history;
+  enough = omega arith;
+  within = omega arith;
+  shows = subst (Shows c) (sym (take_all (length house.history) (events_of house) (omega (arith, length-events_of house)))) shows;
+}
+
+-- a file with the event or without it
+pub holds_more : (old new : House) (event : Event) (c : List ℕ) → Enters old event new → GrowsBy (records (events_of old)) (body_of event ++ 0 ∷ []) c → Holds (length old.history) new c
+holds_more old new event c enters grows = ⊎_elim without with_it (shows_more c (events_of old) event grows)
+  where
+    more : events_of new ≡ events_of old ++ event ∷ []
+    more = events_more old new event enters
+
+    long : length new.history ≡ length old.history + 1
+    long = omega (arith, ap length enters.history)
+
+    without : Shows c (events_of old) → Holds (length old.history) new c
+    without shows = record {
+      count = length old.history;
+      enough = omega arith;
+      within = omega (arith, long);
+      shows = subst (Shows c) (sym (ap (λ (l : List Event). take (length old.history) l) more ∙ take_at (events_of old) (event ∷ []) (length old.history) (length-events_of old))) shows;
+    }
+
+    with_it : Shows c (events_of old ++ event ∷ []) → Holds (length old.history) new c
+    with_it shows = record {
+      count = length new.history;
+      enough = omega (arith, long);
+      within = omega arith;
+      shows = subst (Shows c) (sym (take_all (length new.history) (events_of new) (omega (arith, length-events_of new)) ∙ more)) shows;
+    }
+
+-- with other room the history is the same
+pub holds_same : (least : ℕ) (old new : House) (c : List ℕ) → new.history ≡ old.history → Holds least old c → Holds least new c
+holds_same least old new c same h = record {
+  count = h.count;
+  enough = h.enough;
+  within = omega (arith, h.within, ap length same);
+  shows = subst (λ (l : List Event). Shows c (take h.count (reverse l))) (sym same) h.shows;
+}
+
+module _ {D : Type 0} (seen kept : D → List ℕ) (may_leave : D → List ℕ → Type 0) where
+  pub kept_same : (least : ℕ) (disk : D) (old new : House) → new.history ≡ old.history → IsKept kept may_leave least disk old → IsKept kept may_leave least disk new
+  kept_same least disk old new same h = record {
+    crash = λ c left. holds_same least old new c same (h.crash c left);
+    kept_shows = subst (λ (l : List Event). Shows (kept disk) (take least (reverse l))) (sym same) h.kept_shows;
+  }
+
+  pub ready_same : (disk : D) (old new : House) (gate : ℕ) → new.history ≡ old.history → IsReady seen kept may_leave disk old gate → IsReady seen kept may_leave disk new gate
+  ready_same disk old new gate same h = record {
+    front = h.front ∙ ap (λ (l : List Event). records (reverse l)) (sym same);
+    gate_is = h.gate_is ∙ ap (λ (l : List Event). length (records (reverse l))) (sym same);
+    long = h.long;
+    shut = h.shut;
+    durable = h.durable;
+    kept_is = h.kept_is;
+  }
+
+  -- a disk that is ready shows its history
+  pub ready_shows : (disk : D) (house : House) (gate : ℕ) → IsReady seen kept may_leave disk house gate → Shows (seen disk) (events_of house)
+  ready_shows disk house gate ready =
+      inl (drop gate (seen disk), sym (take-append-drop gate (seen disk)) ∙ ap (λ (l : List ℕ). l ++ drop gate (seen disk)) ready.front, ready.shut)
+
+  -- and keeps it
+  pub ready_keeps : (disk : D) (house : House) (gate : ℕ) → IsReady seen kept may_leave disk house gate → IsKept kept may_leave (length house.history) disk house
+  ready_keeps disk house gate ready =
+      let shows = ready_shows disk house gate ready in
+      record {
+        crash = λ c left. holds_all house c (subst (λ (l : List ℕ). Shows l (events_of house)) (sym (ready.durable c left)) shows);
+        kept_shows = subst (λ (l : List ℕ). Shows l (take (length house.history) (events_of house))) (sym ready.kept_is)
+            (subst (Shows (seen disk)) (sym (take_all (length house.history) (events_of house) (omega (arith, length-events_of house)))) shows);
+      }
