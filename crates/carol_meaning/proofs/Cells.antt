@@ -128,8 +128,10 @@ cell-titles ds = same_lengths titles_in kinds_in titles-kinds ds
 -- a set's or a record's name, and one inside it
 dotted-short : (group i : Ident) → IsName group → IsName i → length (dotted group i) ≤ longest_path
 dotted-short group i h k =
-    let long : length (dotted group i) ≡ length group.word + suc (length i.word) = length-append group.word (codes "." ++ i.word) in
-    omega (arith, long, h.1, k.1)
+    let whole : length (dotted group i) ≡ length (group.word ++ codes ".") + length i.word = length-append (group.word ++ codes ".") i.word in
+    let rest : length (group.word ++ codes ".") ≡ length group.word + length (codes ".") = length-append group.word (codes ".") in
+    let point : length (codes ".") ≡ 1 = refl in
+    omega (arith, whole, rest, point, h.1, k.1)
 
 abbrev AreShortPaths : List (List ℕ) → Type 0
 AreShortPaths names = AllByRecursion (λ name. length name ≤ longest_path) names

@@ -1,16 +1,14 @@
 -- What is as small as the limits of a text make it is short enough for its names to be resolved.
-use Rattle.std.proofs.Common.{ℕ, ◌+◌, ◌≤◌, List, [], ◌∷◌, length, arith}
-use Rattle.std.specs.List.{AllByRecursion}
+use Rattle.std.proofs.Common.{◌≤◌, arith}
 use Rattle.carol_syntax.specs.declared.bodies.Change.{Change}
 use Rattle.carol_syntax.specs.declared.bodies.Change.TheVariants.{Add, Take, Raise, Set}
-use Rattle.carol_syntax.specs.declared.bodies.AtomDecl.{AtomDecl}
 use Rattle.carol_syntax.specs.declared.bodies.Statement.{Statement}
 use Rattle.carol_syntax.specs.declared.bodies.Statement.TheVariants as statement
 use Rattle.carol_syntax.specs.Formulas.{FormulaTree, True, False, Not, And, Or, Compare}
 use Rattle.carol_syntax.specs.Bodies.{BodyTree, Return, If}
 use Rattle.carol_syntax.specs.Files.{NamedFormula, OpTree, ProgramTree}
-use Rattle.carol_syntax.specs.Size.{formula_size, node_count, IsSizedFormula, IsSizedChange, IsSizedAtom, IsSizedStatement, HasSizedParts, IsSizedBody, IsSizedNamed, IsSizedOp, IsSizedProgram}
-use Rattle.carol_meaning.specs.Sizes.{HasShortTerms, IsShortFormula, IsShortChange, IsShortAtom, IsShortStatement, HasShortParts, IsShortBody, IsShortNamed, IsShortOp, IsShortProgram}
+use Rattle.carol_syntax.specs.Size.{formula_size, node_count, IsSizedFormula, IsSizedChange, IsSizedAtom, IsSizedStatement, HasSizedParts, IsSizedNamed, IsSizedOp, IsSizedProgram}
+use Rattle.carol_meaning.specs.Sizes.{HasShortTerms, IsShortFormula, IsShortChange, IsShortAtom, IsShortStatement, HasShortParts, IsShortNamed, IsShortOp, IsShortProgram}
 use Rattle.carol_meaning.proofs.Lists.{All-each}
 
 nodes-below : (f : FormulaTree) → node_count f ≤ formula_size f

@@ -1,6 +1,6 @@
 -- How large a program may be whose names are resolved: formulas of few nodes and terms of few products, and bodies that
 -- are neither deep nor long. Nothing is asked of how much it declares.
-use Rattle.std.specs.Prelude.{ℕ, ◌≤◌, List, length}
+use Rattle.std.specs.Prelude.{◌≤◌, length}
 use Rattle.std.specs.List.{AllByRecursion}
 use Rattle.carol_syntax.specs.declared.formulas.TermDecl.{TermDecl}
 use Rattle.carol_syntax.specs.declared.bodies.Change.{Change}
