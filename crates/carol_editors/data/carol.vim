@@ -14,6 +14,7 @@ syn keyword carolScene replicas tries workers gossipers session at times
 syn keyword carolScript go gossip cut join
 syn match carolNumber "\<\d\+\>"
 syn match carolSign "[-+*<>=!]=\?"
+syn match carolComment "#.*$"
 
 hi def link carolPart PreProc
 hi def link carolKind Type
