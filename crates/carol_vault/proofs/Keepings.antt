@@ -91,3 +91,10 @@ module _ {D : Type 0} (seen kept : D → List ℕ) (may_leave : D → List ℕ �
         kept_shows = subst (λ (l : List ℕ). Shows l (take (length house.history) (events_of house))) (sym ready.kept_is)
             (subst (Shows (seen disk)) (sym (take_all (length house.history) (events_of house) (omega (arith, length-events_of house)))) shows);
       }
+
+  -- what may be left while a record is put behind a ready disk's
+  pub holds_grown : (disk : D) (old new : House) (gate : ℕ) (event : Event) (body c : List ℕ) → IsReady seen kept may_leave disk old gate → body ≡ body_of event ++ 0 ∷ []
+      → Enters old event new → GrowsBy (take gate (seen disk)) body c → Holds (length old.history) new c
+  holds_grown disk old new gate event body c ready is enters grows =
+      holds_more old new event c enters
+      (subst (λ (l : List ℕ). GrowsBy (records (events_of old)) l c) is (subst (λ (l : List ℕ). GrowsBy l body c) ready.front grows))
