@@ -13,6 +13,7 @@ use Rattle.carol_meaning.specs.Terms.{formula_meaning, formula_faults}
 use Rattle.carol_meaning.specs.Stores.{in_invariant, in_guard, words}
 use Rattle.carol_meaning.specs.Bodies.{Around}
 use Rattle.carol_meaning.specs.Operations.{op_faults, op_meaning, op_names}
+
 abbrev pub guard_names : ProgramTree → List Ident
 guard_names p = map (λ g. g.name) p.guards
 

@@ -12,6 +12,7 @@ use Rattle.carol_meaning.specs.Declarations.{is_among}
 use Rattle.carol_meaning.specs.Scopes.{Scope, meaning_of, unless_known, declared}
 use Rattle.carol_meaning.specs.Operations.{with_params, with_queries}
 use Rattle.carol_meaning.specs.Stores.{words}
+
 -- the scope has a meaning for the word
 abbrev pub is_known : List ℕ → Scope → Bool
 is_known word scope = is_some (meaning_of word scope)
