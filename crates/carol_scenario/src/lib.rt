@@ -19,6 +19,3 @@ mod sessions;
 pub use error::{SceneError, SceneLimit};
 pub use generator::{MOST_PER_SESSION, generate};
 pub use scenes::scene;
-
-#[cfg(test)]
-mod tests;
