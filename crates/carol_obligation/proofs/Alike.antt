@@ -5,7 +5,7 @@ use Rattle.std.specs.List.{AllByRecursion}
 use Rattle.carol_store.specs.declared.shape.CellKind.{CellKind}
 use Rattle.carol_store.specs.declared.shape.CellKind.TheVariants.{Counter, Peak, Flag}
 use Rattle.carol_store.specs.declared.effect.Atom.{Atom}
-use Rattle.carol_store.specs.Kinds.{CellValue, IsAmount}
+use Rattle.carol_store.specs.Kinds.{CellValue, IsAmount, value_of}
 use Rattle.carol_store.specs.Stores.{apply}
 use Rattle.carol_formula.specs.Claim.{truth}
 use Rattle.carol_formula.specs.Linear.{Linear}
@@ -91,7 +91,7 @@ module _ (f g : ℕ → ℤ) where
   store_at-as (kind ∷ kinds) base h =
       let first : f base ≡ g base = ap f (omega arith) ∙ h zero (omega arith) ∙ ap g (omega arith)
       in let more : store_at kinds (base + 1) f ≡ store_at kinds (base + 1) g = store_at-as kinds (base + 1) (λ i lt. ap f (omega arith) ∙ h (suc i) (omega arith) ∙ ap g (omega arith))
-      in ap (λ (z : ℤ). z ∷ store_at kinds (base + 1) f) first ∙ ap (λ (zs : List CellValue). g base ∷ zs) more
+      in ap (λ (z : ℤ). value_of kind z ∷ store_at kinds (base + 1) f) first ∙ ap (λ (zs : List CellValue). value_of kind (g base) ∷ zs) more
 
   args_from-as : (param n : ℕ) → ((i : ℕ) → i < n → f (32 + (param + i)) ≡ g (32 + (param + i))) → args_from param n f ≡ args_from param n g
   args_from-as param zero h = refl

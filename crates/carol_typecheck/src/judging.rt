@@ -31,9 +31,10 @@ impl Collector for Judging {
     ghost holds = { λ judging taken. IsVerdictOn taken judging.found };
 
     fn take(&mut self, alloc: Global, place: Place, formula: Formula) -> Result<(), AllocError> {
-        if self.found.is_good() {
-            self.found = judge(alloc, &Obligation { place, formula })?;
+        if !self.found.is_good() {
+            return Ok(());
         }
+        self.found = judge(alloc, &Obligation { place, formula })?;
         Ok(())
     }
 }
