@@ -4,12 +4,11 @@ use Rattle.std.specs.Prelude.{codes}
 use Rattle.std.specs.Fmt.{decimal, digits}
 use Rattle.std.proofs.lemmas.List.{append-nil}
 use Rattle.carol_syntax.specs.declared.scenes.CommandDecl.{CommandDecl}
-use Rattle.carol_syntax.specs.declared.scenes.SessionDecl.{SessionDecl}
-use Rattle.carol_print.specs.Pieces.{Piece, text_of}
-use Rattle.carol_print.specs.Canonical.{Pieces, concat, command, session, closing_brace, end, canonical}
+use Rattle.carol_print.specs.Pieces.{text_of}
+use Rattle.carol_print.specs.Canonical.{Pieces, concat, command, session, closing_brace, end}
 use Rattle.carol_print.specs.Pieces.Piece.{Break}
 use Rattle.carol_print.proofs.LaidLists.{text_of_both}
-use Rattle.carol_generator.specs.Generated.{number_drawn, command_drawn, commands_drawn, session_drawn, sessions_drawn, generated_file, generated_text}
+use Rattle.carol_generator.specs.Generated.{number_drawn, command_drawn, commands_drawn, session_drawn, sessions_drawn, generated_text}
 use Rattle.carol_generator.specs.Layout.{head_text, command_text, commands_text, session_text, sessions_text}
 
 -- one more behind others

@@ -1,11 +1,10 @@
 -- The file of the large inputs: a bank, and sixteen sessions over four replicas whose commands are
 -- drawn one after another.
-use Rattle.std.specs.Prelude.{ℕ, zero, suc, ◌+◌, ◌*◌, ◌%◌, ◌==◌, false, if◌then◌else◌, ℤ, pos, List, [], ◌∷◌, ◌++◌, Some, None, map, codes}
+use Rattle.std.specs.Prelude.{ℕ, zero, suc, ◌+◌, ◌*◌, ◌%◌, ◌==◌, false, if◌then◌else◌, pos, List, [], ◌∷◌, ◌++◌, Some, None, map, codes}
 use Rattle.carol_syntax.specs.declared.places.Ident.{Ident}
 use Rattle.carol_syntax.specs.declared.places.Num.{Num}
 use Rattle.carol_syntax.specs.declared.formulas.ValueKind.{ValueKind}
 use Rattle.carol_syntax.specs.declared.formulas.ValueKind.TheVariants as way
-use Rattle.carol_syntax.specs.declared.formulas.ProductDecl.{ProductDecl}
 use Rattle.carol_syntax.specs.declared.formulas.TermDecl.{TermDecl}
 use Rattle.carol_syntax.specs.declared.formulas.Sign.TheVariants.{AtMost, AtLeast, Same}
 use Rattle.carol_syntax.specs.declared.cells.FieldKind.TheVariants.{Counter}
@@ -17,7 +16,7 @@ use Rattle.carol_syntax.specs.declared.bodies.Statement.TheVariants.{Query, Issu
 use Rattle.carol_syntax.specs.declared.scenes.CommandDecl.{CommandDecl}
 use Rattle.carol_syntax.specs.declared.scenes.SessionDecl.{SessionDecl}
 use Rattle.carol_syntax.specs.declared.scenes.SceneDecl.{SceneDecl}
-use Rattle.carol_syntax.specs.Formulas.{FormulaTree, And, Compare}
+use Rattle.carol_syntax.specs.Formulas.{And, Compare}
 use Rattle.carol_syntax.specs.Bodies.{Return, If}
 use Rattle.carol_syntax.specs.Files.{NamedFormula, OpTree, ProgramTree, FileTree}
 use Rattle.carol_syntax.specs.Unplaced.{nowhere}
