@@ -1,7 +1,8 @@
 ghost use Rattle.std.specs.Prelude.{◌≡◌, ◌+◌, ◌*◌, ◌<◌, ◌≤◌, ◌++◌, length, IfOk, OnOk};
 ghost use Rattle.std.specs.String.{string_bytes};
 ghost use Rattle.carol_syntax.specs.Limits.{most_text_bytes};
-ghost use Rattle.carol_scenario.specs.Generated.{command_text, commands_text, generated_text, head_text, next_number, number_drawn, session_text};
+ghost use Rattle.carol_generator.specs.Generated.{generated_text, next_number, number_drawn};
+ghost use Rattle.carol_generator.specs.Layout.{command_text, commands_text, head_text, session_text};
 
 use std::alloc::{AllocError, Global};
 use std::fmt::Write;
@@ -58,7 +59,7 @@ pub fn generate(alloc: Global, n: u32) -> Result<Vec<u8>, AllocError>
 }
 
 // Appends the bank and the head of the scene.
-#[tactic(auto, unfolding(crate::specs::Generated::head_text))]
+#[tactic(auto, unfolding(crate::specs::Layout::head_text))]
 fn push_head(text: &mut String) -> Result<(), AllocError>
     ensures { OnOk result (string_bytes text.new ≡ string_bytes text.old ++ head_text) }
 {
@@ -67,7 +68,7 @@ fn push_head(text: &mut String) -> Result<(), AllocError>
 
 // Appends a session with n commands, given the number that was drawn last, and answers the number
 // that is drawn last in it.
-#[tactic(auto, unfolding(crate::specs::Generated::session_text))]
+#[tactic(auto, unfolding(crate::specs::Layout::session_text))]
 fn push_session(text: &mut String, n: u32, session: u32, last: u32) -> Result<u32, AllocError>
     requires few { n ≤ MOST_PER_SESSION }
     requires session { session < 16 }
@@ -113,7 +114,7 @@ fn next_number(x: u32) -> u32
 }
 
 // Appends the command that a number stands for.
-#[tactic(auto, unfolding(crate::specs::Generated::command_text))]
+#[tactic(auto, unfolding(crate::specs::Layout::command_text))]
 fn push_command(text: &mut String, x: u32) -> Result<(), AllocError>
     ensures { OnOk result (string_bytes text.new ≡ string_bytes text.old ++ command_text x) }
 {

@@ -1,9 +1,10 @@
 use Rattle.std.proofs.Common.{◌≡◌, ◌+◌, ◌*◌, ◌∙◌, zero-mul, arith}
 use Rattle.std.specs.String.{string_bytes}
-use Rattle.carol_scenario.specs.Generated.{generated_text, head_text}
-use Rattle.carol_scenario.proofs.Generating.{generated_end, no_number, no_session, session_more}
-use Rattle.carol_scenario.proofs.Short.{generated_short}
-use Rattle.carol_scenario.proofs.generator.generate.Goals as goal
+use Rattle.carol_generator.specs.Generated.{generated_text}
+use Rattle.carol_generator.specs.Layout.{head_text}
+use Rattle.carol_generator.proofs.Generating.{generated_end, no_number, no_session, session_more}
+use Rattle.carol_generator.proofs.Short.{generated_short}
+use Rattle.carol_generator.proofs.generator.generate.Goals as goal
 
 pub loop-session-init : goal.loop-session-init
 loop-session-init c =

@@ -1,7 +1,8 @@
 use Rattle.std.proofs.Common.{◌≡◌, ◌+◌, ◌<◌, ◌++◌}
 use Rattle.std.specs.String.{string_bytes}
-use Rattle.carol_scenario.specs.Generated.{commands_text, number_drawn}
-use Rattle.carol_scenario.proofs.generator.push_commands.Given as goal
+use Rattle.carol_generator.specs.Generated.{number_drawn}
+use Rattle.carol_generator.specs.Layout.{commands_text}
+use Rattle.carol_generator.proofs.generator.push_commands.Given as goal
 
 abbrev pub invariant-loop : goal.invariant-loop
 invariant-loop l =

@@ -4,7 +4,9 @@ use Rattle.std.specs.Prelude.{codes, decimal}
 use Rattle.std.proofs.lemmas.Fmt.{length-decimal-le}
 use Rattle.std.proofs.lemmas.Nat.{mod_below}
 use Rattle.carol_syntax.specs.Limits.{most_text_bytes}
-use Rattle.carol_scenario.specs.Generated.{command_text, commands_text, generated_text, head_text, number_drawn, session_text, sessions_text}
+use Rattle.carol_generator.specs.Generated.{generated_text, number_drawn}
+use Rattle.carol_generator.specs.Layout.{command_text, commands_text, head_text, session_text, sessions_text}
+use Rattle.carol_generator.proofs.Written.{written}
 
 head_short : length head_text ≤ 1000
 unfolding head_text
@@ -43,5 +45,4 @@ sessions_short n zero few = lit≤ tt
 sessions_short n (suc session) few = simp length-append (omega (arith, few, sessions_short n session few, session_short n session))
 
 pub generated_short : (n : ℕ) → n ≤ 256 → length (generated_text n) ≤ most_text_bytes
-unfolding generated_text
-generated_short n few = simp length-append (omega (arith, head_short, sessions_short n 16 few))
+generated_short n few = rw (written n) (simp length-append (omega (arith, head_short, sessions_short n 16 few)))

@@ -2,7 +2,9 @@
 use Rattle.std.proofs.Common.{◌≡◌, ℕ, ◌+◌, ◌++◌, List, [], ◌∷◌, refl, sym, ◌∙◌, ap, add-one, append_assoc}
 use Rattle.std.specs.Prelude.{codes}
 use Rattle.std.proofs.lemmas.List.{append-nil}
-use Rattle.carol_scenario.specs.Generated.{command_text, commands_text, generated_text, head_text, next_number, number_drawn, session_text, sessions_text}
+use Rattle.carol_generator.specs.Generated.{generated_text, next_number, number_drawn}
+use Rattle.carol_generator.specs.Layout.{command_text, commands_text, head_text, session_text, sessions_text}
+use Rattle.carol_generator.proofs.Written.{written}
 
 -- before the first command
 pub no_number : (n : ℕ) → n ≡ number_drawn n 0
@@ -38,6 +40,5 @@ session_more n session was =
 
 -- the end of the file
 pub generated_end : (n s : ℕ) (before whole : List ℕ) → s ≡ 16 → before ≡ head_text ++ sessions_text n s → whole ≡ before ++ (codes "end" ++ 10 ∷ []) → whole ≡ generated_text n
-unfolding generated_text
 generated_end n s before whole all is end =
-    rw (end, is, all) (append_assoc head_text (sessions_text n 16) (codes "end" ++ 10 ∷ []))
+    rw (end, is, all, written n) (append_assoc head_text (sessions_text n 16) (codes "end" ++ 10 ∷ []))

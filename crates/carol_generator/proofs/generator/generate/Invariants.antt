@@ -1,7 +1,8 @@
 use Rattle.std.proofs.Common.{◌≡◌, ◌*◌, ◌<◌, ◌++◌}
 use Rattle.std.specs.String.{string_bytes}
-use Rattle.carol_scenario.specs.Generated.{head_text, number_drawn, sessions_text}
-use Rattle.carol_scenario.proofs.generator.generate.Given as goal
+use Rattle.carol_generator.specs.Generated.{number_drawn}
+use Rattle.carol_generator.specs.Layout.{head_text, sessions_text}
+use Rattle.carol_generator.proofs.generator.generate.Given as goal
 
 abbrev pub invariant-loop-session : goal.invariant-loop-session
 invariant-loop-session l =

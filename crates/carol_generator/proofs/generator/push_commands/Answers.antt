@@ -1,8 +1,8 @@
 use Rattle.std.proofs.Common.{◌≡◌, ◌+◌, add-zero, arith}
 use Rattle.std.specs.String.{string_bytes}
-use Rattle.carol_scenario.specs.Generated.{number_drawn}
-use Rattle.carol_scenario.proofs.Generating.{command_more, no_command, number_more}
-use Rattle.carol_scenario.proofs.generator.push_commands.Goals as goal
+use Rattle.carol_generator.specs.Generated.{number_drawn}
+use Rattle.carol_generator.proofs.Generating.{command_more, no_command, number_more}
+use Rattle.carol_generator.proofs.generator.push_commands.Goals as goal
 
 pub loop-init : goal.loop-init
 loop-init c = (no_command c.args.n c.args.first (string_bytes c.args.text.now), rw add-zero c.requires.last, c.requires.low)

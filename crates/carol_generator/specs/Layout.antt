@@ -1,6 +1,6 @@
--- The text of the large inputs: a bank, and sixteen sessions over four replicas whose commands are
--- drawn one after another.
+-- The text of the large inputs, as it is written line by line.
 use Rattle.std.specs.Prelude.{ℕ, zero, suc, ◌+◌, ◌*◌, ◌%◌, ◌==◌, if◌then◌else◌, List, [], ◌∷◌, ◌++◌, codes, decimal, flat_map}
+use Rattle.carol_generator.specs.Generated.{number_drawn}
 
 -- each of these on a line of its own
 abbrev pub lines_text : List (List ℕ) → List ℕ
@@ -33,15 +33,6 @@ head_text = lines_text (
     codes "workers 4;" ∷
     codes "gossipers 1;" ∷ [])
 
--- the number that is drawn after this one
-abbrev pub next_number : ℕ → ℕ
-next_number x = (75 * x + 74) % 65537
-
--- the number that is drawn with this count, where the first is drawn after n
-unfoldable pub number_drawn : ℕ → ℕ → ℕ
-number_drawn n zero = n
-number_drawn n (suc count) = next_number (number_drawn n count)
-
 -- the command that a number stands for, on a line of its own
 unfoldable pub command_text : ℕ → List ℕ
 command_text x =
@@ -64,7 +55,3 @@ session_text n session =
 unfoldable pub sessions_text : ℕ → ℕ → List ℕ
 sessions_text n zero = []
 sessions_text n (suc session) = sessions_text n session ++ session_text n session
-
--- the file with n commands in each session
-unfoldable pub generated_text : ℕ → List ℕ
-generated_text n = head_text ++ (sessions_text n 16 ++ (codes "end" ++ 10 ∷ []))
