@@ -2,20 +2,16 @@
 use Rattle.std.specs.Prelude.{ℕ, zero, suc, ◌+◌, Bool, true, false, List, [], ◌∷◌, ◌++◌, codes, length, Option, Some, None}
 use Rattle.std.specs.Fmt.{decimal}
 use Rattle.carol_store.specs.declared.shape.CellKind.{CellKind}
-use Rattle.carol_store.specs.declared.shape.CellKind.TheVariants.{Counter, Peak, Flag}
+use Rattle.carol_store.specs.Kinds.{ways}
 use Rattle.carol_program.specs.declared.accords.Entry.{Entry}
 use Rattle.carol_program.specs.declared.accords.Entry.TheVariants.{Yes, No}
 use Rattle.carol_program.specs.declared.names.Names.{Names}
 use Rattle.carol_program.specs.Accords.{Accords, entry_of}
 use Rattle.carol_reading.specs.Kept.{Kept}
-use Rattle.carol_accept.specs.Named.{name_at}
+use Rattle.carol_accept.specs.Named.{name_at, way_word}
 
 abbrev pub line_feed : List ℕ
 line_feed = 10 ∷ []
-
-abbrev pub way_word : Bool → List ℕ
-way_word true = codes " up "
-way_word false = codes " down "
 
 abbrev pub answer_word : Option Entry → List ℕ
 answer_word (Some Yes) = codes "yes"
@@ -25,13 +21,16 @@ answer_word None = []
 -- whether this way of the cell keeps the guard
 abbrev pub way_text : Names → Accords → ℕ → ℕ → Bool → List ℕ
 way_text names table guard cell up =
-    name_at names.cells cell ++ (way_word up ++ (answer_word (entry_of table guard cell up) ++ line_feed))
+    name_at names.cells cell ++ (way_word up ++ (codes " " ++ (answer_word (entry_of table guard cell up) ++ line_feed)))
 
--- the ways of a cell of this kind: a counter goes up and down, any other up
+-- these ways of the cell
+abbrev pub ways_text : Names → Accords → ℕ → ℕ → List Bool → List ℕ
+ways_text names table guard cell [] = []
+ways_text names table guard cell (up ∷ more) = way_text names table guard cell up ++ ways_text names table guard cell more
+
+-- the ways of a cell of this kind
 abbrev pub cell_text : Names → Accords → ℕ → ℕ → CellKind → List ℕ
-cell_text names table guard cell Counter = way_text names table guard cell true ++ way_text names table guard cell false
-cell_text names table guard cell Peak = way_text names table guard cell true
-cell_text names table guard cell Flag = way_text names table guard cell true
+cell_text names table guard cell kind = ways_text names table guard cell (ways kind)
 
 -- the cells from this one on, which have these kinds
 abbrev pub cells_text : Names → Accords → ℕ → ℕ → List CellKind → List ℕ

@@ -26,7 +26,6 @@ mod steps;
 
 use crate::entries::all_entries;
 use carol_program::{AccordTable, Program};
-pub use deciding::MOST_LEAVES;
 pub use error::AccordError;
 use std::alloc::Global;
 
@@ -36,7 +35,7 @@ use std::alloc::Global;
 /// is well formed. The table has an entry for each guard and step.
 pub fn infer(alloc: Global, program: &Program) -> Result<AccordTable, AccordError>
     requires { IsWellFormed (rules_in program.now) program.now.names }
-    ensures right { let p = rules_in program.now in IfOk result (IsRight p.shape p.guards) }
+    ensures right { let p = rules_in program.now in IfOk result (IsRight p) }
     ensures reflexive { let p = rules_in program.now
         in IfOk result (λ _. AllByRecursion (IsReflexive p) p.guards) }
     ensures witnesses { let p = rules_in program.now

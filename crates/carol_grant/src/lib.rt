@@ -10,8 +10,5 @@
 mod grants;
 mod row;
 mod tally;
-#[cfg(test)]
-mod tests;
 
 pub use grants::Grants;
-pub use row::{MOST_GUARDS, MOST_SESSIONS};

@@ -7,10 +7,10 @@ ghost use Rattle.carol_house.specs.Kept.{are_done};
 
 use crate::tables::Tables;
 use carol_event::Event;
-use carol_history::{Outcome, history_laws};
+use carol_history::history_laws;
 use carol_machine::Machine;
 use carol_program::{Program, Scene};
-use carol_reading::Accepted;
+use carol_reading::{Accepted, Outcome};
 use carol_simulation::simulation;
 use carol_store::Store;
 use std::alloc::{AllocError, Global};
@@ -20,6 +20,9 @@ mod admit;
 mod enter;
 mod moves;
 mod next;
+
+pub use enter::link_event;
+pub use moves::kind_of;
 
 /// An accepted program in a scene, with its history so far. Contracts see it as the program with
 /// its accords, the scene, the history, the latest event first, and for how many more events there

@@ -1,11 +1,12 @@
 -- Programs without faults are well formed.
-use Rattle.std.proofs.Common.{◌≡◌, ℕ, ◌≤◌, inl, inr, List, [], ◌∷◌, map, length, arith, sym, ◌∙◌, subst}
+use Rattle.std.proofs.Common.{◌≡◌, ◌≤◌, inl, inr, List, [], ◌∷◌, map, length, arith, sym, ◌∙◌, subst}
 use Rattle.std.specs.List.{AllByRecursion, flat_map}
 use Rattle.std.proofs.lemmas.List.{length-map}
+use Rattle.carol_store.specs.declared.shape.CellKind.{CellKind}
 use Rattle.carol_formula.specs.Claim.{Claim}
 use Rattle.carol_syntax.specs.Files.{NamedFormula, OpTree, ProgramTree}
 use Rattle.carol_syntax.specs.Shape.{IsOp, IsProgram}
-use Rattle.carol_syntax.specs.Size.{IsSizedNamed, IsSizedOp, IsSizedProgram}
+use Rattle.carol_meaning.specs.Sizes.{IsShortNamed, IsShortOp, IsShortProgram}
 use Rattle.carol_program.specs.Limits.{most_cells, most_guards, most_ops}
 use Rattle.carol_program.specs.Variables.{invariant_variables, guard_variables}
 use Rattle.carol_program.specs.WellFormed.{IsFormulaOver, IsOpOver, AreCalled, AreRules, IsNamed, IsWellFormed}
@@ -20,17 +21,17 @@ use Rattle.carol_meaning.specs.Laws.{FaultlessIsWellFormed}
 use Rattle.carol_meaning.proofs.Lists.{no_part, each-none, few, All-both, All-map}
 use Rattle.carol_meaning.proofs.Among.{AreNarrow}
 use Rattle.carol_meaning.proofs.Terms.{formula-over}
-use Rattle.carol_meaning.proofs.Cells.{few-cells, cell-titles, cells-start}
+use Rattle.carol_meaning.proofs.Cells.{few-cells, cell-titles, short-titles, cells-start}
 use Rattle.carol_meaning.proofs.Looks.{invariant-looks, guard-looks}
 use Rattle.carol_meaning.proofs.Operations.{op-over, op-called, words-short, names-of}
 
 -- ---- variables of stores
 
-invariant-narrow : (cells : ℕ) → cells ≤ most_cells → AreNarrow (invariant_variables cells)
+invariant-narrow : (cells : List CellKind) → length cells ≤ most_cells → AreNarrow (invariant_variables cells)
 invariant-narrow cells h v (inl k) = omega (arith, h, k.1)
 invariant-narrow cells h v (inr k) = absurd k
 
-guard-narrow : (cells : ℕ) → cells ≤ most_cells → AreNarrow (guard_variables cells)
+guard-narrow : (cells : List CellKind) → length cells ≤ most_cells → AreNarrow (guard_variables cells)
 guard-narrow cells h v (inl k) = omega (arith, h, k.1)
 guard-narrow cells h v (inr (inl k)) = omega (arith, h, k.1)
 guard-narrow cells h v (inr (inr k)) = absurd k
@@ -43,14 +44,14 @@ all-called around (o ∷ ops) h = (op-called around o h.0, all-called around ops
 
 -- ---- the program
 
-module _ (tree : ProgramTree) (shape : IsProgram tree) (sized : IsSizedProgram tree) (none : program_faults tree ≡ []) where
-  abbrev cells : ℕ
-  cells = length (flat_map kinds_in tree.cells)
+module _ (tree : ProgramTree) (shape : IsProgram tree) (sized : IsShortProgram tree) (none : program_faults tree ≡ []) where
+  abbrev cells : List CellKind
+  cells = flat_map kinds_in tree.cells
 
   abbrev guard : NamedFormula → Claim
   guard g = formula_meaning (in_guard tree.cells) g.formula
 
-  few-kinds : cells ≤ most_cells
+  few-kinds : length cells ≤ most_cells
   few-kinds = few-cells tree.cells (search no_part)
 
   few-guards : length (guard_names tree) ≤ most_guards
@@ -63,27 +64,27 @@ module _ (tree : ProgramTree) (shape : IsProgram tree) (sized : IsSizedProgram t
       let none-more : too_many most_ops (op_idents tree) ≡ [] = search no_part in
       few most_ops (op_idents tree) none-more
 
-  guard-over : (g : NamedFormula) → IsSizedNamed g × (formula_faults (in_guard tree.cells) g.formula ≡ []) → IsFormulaOver (guard_variables cells) (guard g)
+  guard-over : (g : NamedFormula) → IsShortNamed g × (formula_faults (in_guard tree.cells) g.formula ≡ []) → IsFormulaOver (guard_variables cells) (guard g)
   guard-over g h = formula-over (guard_variables cells) (guard-narrow cells few-kinds) (in_guard tree.cells)
       (guard-looks (guard_variables cells) tree.cells (λ v l k. inl (l, k)) (λ v l k. inr (inl (l, k)))) g.formula h.0 h.1
 
   guards-over : AllByRecursion (IsFormulaOver (guard_variables cells)) (map guard tree.guards)
   guards-over =
       let faultless = each-none (λ g. formula_faults (in_guard tree.cells) g.formula) tree.guards (search no_part) in
-      All-map _ (IsFormulaOver (guard_variables cells)) guard guard-over tree.guards (All-both _ _ tree.guards sized.guards.1 faultless)
+      All-map _ (IsFormulaOver (guard_variables cells)) guard guard-over tree.guards (All-both _ _ tree.guards sized.guards faultless)
 
   -- as many guards as the program has
   guards-count : length (guard_names tree) ≡ length (map guard tree.guards)
   guards-count = length-map tree.guards (λ g. g.name) ∙ sym (length-map tree.guards guard)
 
-  op-fits : (o : OpTree) → IsOp o × (IsSizedOp o × (op_faults (around tree) o ≡ [])) → IsOpOver (flat_map kinds_in tree.cells) (length (map guard tree.guards)) (op_meaning (around tree) o)
-  op-fits o h = subst (λ n. IsOpOver (flat_map kinds_in tree.cells) n (op_meaning (around tree) o)) guards-count (op-over (around tree) few-kinds o h.0 h.1.0 h.1.1)
+  op-fits : (o : OpTree) → IsOp o × (IsShortOp o × (op_faults (around tree) o ≡ [])) → IsOpOver cells (length (map guard tree.guards)) (op_meaning (around tree) o)
+  op-fits o h = subst (λ n. IsOpOver cells n (op_meaning (around tree) o)) guards-count (op-over (around tree) few-kinds o h.0 h.1.0 h.1.1)
 
-  ops-over : AllByRecursion (IsOpOver (flat_map kinds_in tree.cells) (length (map guard tree.guards))) (map (op_meaning (around tree)) tree.ops)
+  ops-over : AllByRecursion (IsOpOver cells (length (map guard tree.guards))) (map (op_meaning (around tree)) tree.ops)
   ops-over =
       let faultless = each-none (op_faults (around tree)) tree.ops (search no_part) in
-      All-map _ (IsOpOver (flat_map kinds_in tree.cells) (length (map guard tree.guards))) (op_meaning (around tree)) op-fits tree.ops
-      (All-both _ _ tree.ops shape.ops (All-both _ _ tree.ops sized.ops.1 faultless))
+      All-map _ (IsOpOver cells (length (map guard tree.guards))) (op_meaning (around tree)) op-fits tree.ops
+      (All-both _ _ tree.ops shape.ops (All-both _ _ tree.ops sized.ops faultless))
 
   rules : AreRules (rules_of tree)
   rules = record {
@@ -101,6 +102,7 @@ module _ (tree : ProgramTree) (shape : IsProgram tree) (sized : IsSizedProgram t
   named : IsNamed (rules_of tree) (names_of tree)
   named = record {
     cells = cell-titles tree.cells;
+    short_cells = short-titles tree.cells shape.cells;
     guards = length-map (guard_names tree) (λ i. i.word) ∙ guards-count;
     short_guards = words-short (guard_names tree) (names-of tree.guards shape.guards);
     ops = all-called (around tree) tree.ops shape.ops;

@@ -12,18 +12,19 @@ use Rattle.carol_formula.specs.Named.{named_claim, named_term}
 use Rattle.carol_formula.proofs.Renamings.{weight-named_term}
 use Rattle.carol_program.specs.declared.steps.Part.{Part}
 use Rattle.carol_program.specs.Rules.{Rules, OpRules}
-use Rattle.carol_program.specs.WellFormed.{nodes, AreRules, IsTermOver, IsFormulaOver}
+use Rattle.carol_program.specs.WellFormed.{AreRules, IsTermOver, IsFormulaOver}
+use Rattle.carol_formula.specs.Size.{nodes_of, light_limit, IsLightTerm, IsLight}
 use Rattle.carol_program.specs.Limits.{most_cells, most_queries, most_statements}
 use Rattle.carol_program.specs.Variables.{guard_variables, invariant_variables, outcome_variables, query_variable}
 use Rattle.carol_obligation.specs.Decoded.{round_variable}
 use Rattle.carol_obligation.specs.Sites.{Ending, Amount, After, Gives}
 use Rattle.carol_obligation.specs.Formed.{at_most, with_flags, with_round, with_query, guard_at, with_test, too_large, tie, with_tie, with_ties, broken, owed, round_name, guard_name, after_name, result_name}
-use Rattle.carol_obligation.specs.Budget.{light_limit, amount_limit, IsLightTerm, IsLight, IsDecidable, AreLightParts, AreSmallParts, round_nodes, test_nodes}
+use Rattle.carol_obligation.specs.Budget.{amount_limit, IsDecidable, AreLightParts, AreSmallParts, round_nodes, test_nodes}
 use Rattle.carol_obligation.proofs.Light.{HaveNames, light_term, named_light, round_named, guard_named, after_named, result_named}
 
 -- ---- renamed formulas
 
-pub nodes-named_claim : (name : ℕ → Linear) (c : Claim) → nodes (named_claim name c) ≡ nodes c
+pub nodes-named_claim : (name : ℕ → Linear) (c : Claim) → nodes_of (named_claim name c) ≡ nodes_of c
 nodes-named_claim name True = omega arith
 nodes-named_claim name False = omega arith
 nodes-named_claim name (Le t) = omega arith
@@ -51,13 +52,13 @@ light-named_claim can name ranges (Not a) h each = light-named_claim can name ra
 -- the formula is light, and has at most so many nodes more than the other
 pub record Grows (old : Claim) (by : ℕ) (new : Claim) : Type 0 where
   pub light : IsLight old → IsLight new
-  pub few : nodes new ≤ nodes old + by
+  pub few : nodes_of new ≤ nodes_of old + by
 
 pub grows_then : {a b c : Claim} {m n : ℕ} → Grows a m b → Grows b n c → Grows a (m + n) c
 grows_then {a} {b} {c} {m} {n} g h = record { light = λ l. h.light (g.light l); few = omega (arith, g.few, h.few) }
 
 -- one formula more
-pub grows_and : (old c : Claim) (most : ℕ) → IsLight c → nodes c ≤ most → Grows old (most + 1) (And old c)
+pub grows_and : (old c : Claim) (most : ℕ) → IsLight c → nodes_of c ≤ most → Grows old (most + 1) (And old c)
 grows_and old c most light few = record { light = λ l. (l, light); few = omega (arith, few) }
 
 pub light_at_most : (s t : Linear) → weight s + weight t < light_limit → IsLight (at_most s t)
@@ -75,7 +76,7 @@ grows_flags (Flag ∷ kinds) base known =
 grows_flags (Counter ∷ kinds) base known = let more = grows_flags kinds (base + 1) known in record { light = more.light; few = omega (arith, more.few) }
 grows_flags (Peak ∷ kinds) base known = let more = grows_flags kinds (base + 1) known in record { light = more.light; few = omega (arith, more.few) }
 
-with_stored : (kinds : List CellKind) (base : ℕ) (known c : Claim) → length kinds ≤ most_cells → IsLight c → nodes c ≤ 256 → Grows known round_nodes (with_flags kinds base (And known c))
+with_stored : (kinds : List CellKind) (base : ℕ) (known c : Claim) → length kinds ≤ most_cells → IsLight c → nodes_of c ≤ 256 → Grows known round_nodes (with_flags kinds base (And known c))
 with_stored kinds base known c few light small =
     let first = grows_and known c 256 light small in
     let more = grows_flags kinds base (And known c) in
@@ -84,14 +85,14 @@ with_stored kinds base known c few light small =
 pub grows_round : (p : Rules) (round : ℕ) (known : Claim) → AreRules p → round ≤ most_statements → Grows known round_nodes (with_round p round known)
 grows_round p round known rules le =
     with_stored p.shape (round_variable round 0) known (named_claim (round_name round) p.invariant) rules.few_cells
-    (light-named_claim _ (round_name round) (invariant_variables (length p.shape)) p.invariant (round_named round (length p.shape) rules.few_cells le) rules.invariant.terms)
+    (light-named_claim _ (round_name round) (invariant_variables p.shape) p.invariant (round_named round p.shape rules.few_cells le) rules.invariant.terms)
     (omega (arith, nodes-named_claim (round_name round) p.invariant, rules.invariant.few))
 
-grows_guard : (p : Rules) (o : Option Claim) (slot round : ℕ) (known : Claim) → AreRules p → slot < most_queries → round ≤ most_statements → IsSomeAnd o (IsFormulaOver (guard_variables (length p.shape))) → Grows known round_nodes (guard_at p o slot round known)
+grows_guard : (p : Rules) (o : Option Claim) (slot round : ℕ) (known : Claim) → AreRules p → slot < most_queries → round ≤ most_statements → IsSomeAnd o (IsFormulaOver (guard_variables p.shape)) → Grows known round_nodes (guard_at p o slot round known)
 grows_guard p None slot round known rules s le h = absurd h
 grows_guard p (Some c) slot round known rules s le h =
     with_stored p.shape (query_variable slot 0) known (named_claim (guard_name slot round) c) rules.few_cells
-    (light-named_claim _ (guard_name slot round) (guard_variables (length p.shape)) c (guard_named slot round (length p.shape) rules.few_cells s le) h.terms)
+    (light-named_claim _ (guard_name slot round) (guard_variables p.shape) c (guard_named slot round p.shape rules.few_cells s le) h.terms)
     (omega (arith, nodes-named_claim (guard_name slot round) c, h.few))
 
 -- what holds of each holds of the one with this number
@@ -101,7 +102,7 @@ each_at P (x ∷ xs) zero h lt = h.0
 each_at P (x ∷ xs) (suc i) h lt = each_at P xs i h.1 (omega (arith, lt))
 
 pub grows_query : (p : Rules) (guard slot round : ℕ) (known : Claim) → AreRules p → guard < length p.guards → slot < most_queries → round ≤ most_statements → Grows known round_nodes (with_query p guard slot round known)
-grows_query p guard slot round known rules lt s le = grows_guard p (slice_get p.guards guard) slot round known rules s le (each_at (IsFormulaOver (guard_variables (length p.shape))) p.guards guard rules.guards lt)
+grows_query p guard slot round known rules lt s le = grows_guard p (slice_get p.guards guard) slot round known rules s le (each_at (IsFormulaOver (guard_variables p.shape)) p.guards guard rules.guards lt)
 
 light_own : (ranges : List (ℕ × ℕ)) (t : Linear) → IsTermOver ranges t → IsLightTerm t
 light_own ranges t h = omega (arith, light_term ranges t h)
@@ -160,7 +161,7 @@ grows_broken p op round params (Amount atom kind part) known rules le over h =
 grows_broken p op round params (After parts) known rules le over h =
     let name = after_name p.shape parts round in
     let ties = grows_ties p.shape round parts known h.light in
-    let light = light-named_claim _ name (invariant_variables (length p.shape)) p.invariant (after_named p.shape parts round (length p.shape) rules.few_cells le h.light) rules.invariant.terms in
+    let light = light-named_claim _ name (invariant_variables p.shape) p.invariant (after_named p.shape parts round p.shape rules.few_cells le h.light) rules.invariant.terms in
     record { light = λ l. (ties.light l, light); few = omega (arith, ties.few, h.few, nodes-named_claim name p.invariant, rules.invariant.few) }
 grows_broken p op round params (Gives value) known rules le over h =
     let name = result_name value in
@@ -168,7 +169,7 @@ grows_broken p op round params (Gives value) known rules le over h =
     record { light = λ l. (l, light); few = omega (arith, nodes-named_claim name op.result, over.few) }
 
 -- the formula of a place can be decided
-pub owed_decidable : (p : Rules) (op : OpRules) (round params : ℕ) (ending : Ending) (known : Claim) → AreRules p → round ≤ most_statements → IsFormulaOver (outcome_variables params) op.result → IsSmallEnding ending → IsLight known → nodes known ≤ 50000 → IsDecidable (owed p op round ending known)
+pub owed_decidable : (p : Rules) (op : OpRules) (round params : ℕ) (ending : Ending) (known : Claim) → AreRules p → round ≤ most_statements → IsFormulaOver (outcome_variables params) op.result → IsSmallEnding ending → IsLight known → nodes_of known ≤ 50000 → IsDecidable (owed p op round ending known)
 owed_decidable p op round params ending known rules le over small light few =
     let first = grows_round p round known rules le in
     let more = grows_broken p op round params ending (with_round p round known) rules le over small in

@@ -47,9 +47,9 @@ told_is_accepted p q a same h = subst IsAccepted same h.is_kept.may_be.accepted
 
 -- a table that is told is whole
 whole_in : (p : Program) (a : Answer) (tree : ProgramTree) → rules_in p ≡ rules_of tree → (h : IsToldAccepted p a)
-    → IsWhole (rules_of tree).shape (rules_of tree).guards h.kept.accords
+    → IsWhole (rules_of tree) h.kept.accords
 whole_in p a tree same h = record {
-  right = subst (λ (r : Rules). IsRight r.shape r.guards h.kept.accords) same h.is_kept.may_be.right;
+  right = subst (λ (r : Rules). IsRight r h.kept.accords) same h.is_kept.may_be.right;
   whole = h.is_kept.whole;
 }
 
