@@ -13,10 +13,8 @@ mod programs;
 mod readback;
 mod scenes;
 mod terms;
-#[cfg(test)]
-mod tests;
 mod whole;
 
 pub use laying::{canonical_is_laid_out, laid_out};
-pub use readback::canonical_is_read;
+pub use readback::{canonical_is_read, small_is_read};
 pub use whole::print;

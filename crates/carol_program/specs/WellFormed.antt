@@ -6,7 +6,7 @@ use Rattle.carol_store.specs.declared.shape.CellKind.TheVariants.{Counter, Peak,
 use Rattle.carol_store.specs.Kinds.{CellValue, number_of}
 use Rattle.carol_store.specs.Stores.{IsStore}
 use Rattle.carol_formula.specs.Linear.{Linear, constant_of}
-use Rattle.carol_formula.specs.Claim.{Claim, True, False, Le, Eq, Ne, And, Or, Not, EachTerm}
+use Rattle.carol_formula.specs.Claim.{Claim, EachTerm}
 use Rattle.carol_formula.specs.Size.{nodes_of}
 use Rattle.carol_program.specs.declared.steps.Part.{Part}
 use Rattle.carol_program.specs.declared.names.OpNames.{OpNames}

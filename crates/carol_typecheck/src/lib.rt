@@ -13,8 +13,8 @@ mod batch;
 mod decider;
 mod direct;
 mod judge;
-#[cfg(test)]
-mod tests;
+mod direct;
+mod judge;
 mod verdict;
 
 ghost use Rattle.std.specs.Prelude.{[], ◌∷◌, IfOk, length};
