@@ -9,8 +9,9 @@ loop-up-init c = rw c.ways-left.ensures refl
 
 pub loop-up-preserved : goal.loop-up-preserved
 loop-up-preserved c =
-    subst (λ (items : List Direction). items ++ (map (step_of c.args.cell) c.in-Some.more.now ++ []) ≡ c.args.steps.now.items ++ steps_before c.args.cell c.args.kind []) (sym c.in_ok-push.ensures.ok)
-    (stepped_on _ c.args.cell c.in-Some.up.now c.loop-up.left.now c.in-Some.more.now _ c.in-Some.ensures.cases.0 c.loop-up.invariant)
+    let whole : List Direction = c.args.steps.now.items ++ steps_before c.args.cell c.args.kind [] in
+    let on = stepped_on c.loop-up.steps.items c.args.cell c.in-Some.up.now c.loop-up.left.now c.in-Some.more.now whole c.in-Some.ensures.cases.0 c.loop-up.invariant in
+    subst (λ (items : List Direction). items ++ (map (step_of c.args.cell) c.in-Some.more.now ++ []) ≡ whole) (sym c.in_ok-push.ensures.items) on
 
 pub returns : goal.returns
-returns c = stepped_end _ c.args.cell c.loop-up.left.now _ c.in_default.ensures.cases c.loop-up.invariant
+returns c = stepped_end c.loop-up.steps.items c.args.cell c.loop-up.left.now (c.args.steps.now.items ++ steps_before c.args.cell c.args.kind []) c.in_default.ensures.cases c.loop-up.invariant
