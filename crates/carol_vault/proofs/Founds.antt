@@ -1,16 +1,19 @@
 -- What is found of a file that was read.
-use Rattle.std.proofs.Common.{◌≡◌, ◌≤◌, ◌<◌, ℕ, ◌+◌, min, List, [], ◌∷◌, ◌++◌, length, take, drop, refl, sym, ◌∙◌, ap, subst, inl, inr, arith, length-drop}
+use Rattle.std.proofs.Common.{◌≡◌, ◌≤◌, ◌<◌, ℕ, ◌+◌, min, Bool, true, false, List, [], ◌∷◌, ◌++◌, length, take, drop, refl, sym, ◌∙◌, ap, subst, inl, inr, arith, length-drop}
 use Rattle.std.specs.Prelude.{reverse}
-use Rattle.std.proofs.lemmas.List.{take_all}
+use Rattle.std.proofs.lemmas.List.{nil_from_length, take_all}
 use Rattle.carol_program.specs.Rules.{Rules, rules_in}
 use Rattle.carol_program.specs.declared.scenes.Scene.{Scene}
 use Rattle.carol_reading.specs.Kept.{Kept}
 use Rattle.carol_event.specs.declared.event.Event.{Event}
 use Rattle.carol_history.specs.declared.history.TheConstants.{MOST_EVENTS}
 use Rattle.carol_house.specs.House.{House}
+use Rattle.carol_audit.specs.declared.ruling.Ruling.{Ruling}
+use Rattle.carol_audit.specs.declared.ruling.Ruling.TheVariants.{Genuine, FirstFalse}
 use Rattle.carol_audit.specs.Rulings.{IsFirstFalse, IsGenuine}
+use Rattle.carol_audit.specs.Rulings as Rulings
 use Rattle.carol_vault_image.specs.Records.{IsRead, records}
-use Rattle.carol_vault.specs.Finding.{Holds, IsClosed, IsIllegal}
+use Rattle.carol_vault.specs.Finding.{Holds, IsClosed, IsIllegal, Tells, found_of}
 use Rattle.carol_vault.proofs.OneFinding.{first_few, first_front}
 
 module _ (kept : Kept) (scene : Scene) (file : List ℕ) (events : List Event) (place few : ℕ) (few_is : few ≡ min (length events) MOST_EVENTS)
@@ -45,3 +48,10 @@ module _ (kept : Kept) (scene : Scene) (file : List ℕ) (events : List Event) (
       let most : few ≡ MOST_EVENTS = omega (arith, more, few_is) in
       let whole : IsGenuine kept scene (take MOST_EVENTS events) house = subst (λ (n : ℕ). IsGenuine kept scene (take n events) house) most genuine in
       record { events = events; end = drop place file; read = read; closed = closed; first = inr (refl, more, whole.run) }
+
+  -- what the ruling says is so
+  pub told : (r : Ruling) (more : List Event) (all : Bool) → more ≡ drop few events → (all ≡ true → length more ≡ 0) → (all ≡ false → 1 ≤ length more) → place ≡ length (records events)
+      → Rulings.Tells kept scene (take few events) r → Tells kept scene file (found_of r place all)
+  told (FirstFalse number) more all is none some place_is tells = false_found number tells
+  told (Genuine house) more true is none some place_is tells = sound_found house (nil_from_length (drop few events) (sym (ap length is) ∙ none refl)) place_is tells
+  told (Genuine house) more false is none some place_is tells = many_found house (subst (λ (l : List Event). 1 ≤ length l) is (some refl)) tells

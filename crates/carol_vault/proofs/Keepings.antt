@@ -1,10 +1,11 @@
 -- What a disk keeps while an event is put behind the others.
 use Rattle.std.proofs.Common.{◌≡◌, ◌⊎◌, ◌≤◌, ◌<◌, ℕ, ◌+◌, ◌-◌, List, [], ◌∷◌, ◌++◌, length, take, drop, refl, sym, ◌∙◌, ap, subst, inl, inr, ⊎_elim, arith, length-append, take-append-drop}
-use Rattle.std.specs.Prelude.{reverse}
+use Rattle.std.specs.Prelude.{reverse, Result, Ok, Err, OnOk, OnErr}
 use Rattle.std.proofs.lemmas.List.{length-reverse, reverse-append, take_all, take_at}
 use Rattle.carol_event.specs.declared.event.Event.{Event}
 use Rattle.carol_house.specs.House.{House, Enters}
-use Rattle.carol_disk.specs.Gates.{GrowsBy}
+use Rattle.carol_disk.specs.Disk.{Only}
+use Rattle.carol_disk.specs.Gates.{EndsBehind, GrowsBy}
 use Rattle.carol_vault_image.specs.Records.{Shows, body_of, records}
 use Rattle.carol_vault_image.proofs.Keeping.{Gated, gated_more, shows_more}
 use Rattle.carol_vault.specs.Vaults.{Holds, IsKept, IsReady, events_of}
@@ -98,3 +99,35 @@ module _ {D : Type 0} (seen kept : D → List ℕ) (may_leave : D → List ℕ �
   holds_grown disk old new gate event body c ready is enters grows =
       holds_more old new event c enters
       (subst (λ (l : List ℕ). GrowsBy (records (events_of old)) l c) is (subst (λ (l : List ℕ). GrowsBy l body c) ready.front grows))
+
+  -- behind which the disk is ready again, where it was written
+  pub ready_more : {T E : Type 0} (disk after : D) (old new : House) (gate : ℕ) (event : Event) (body : List ℕ) (r : Result T E) → IsReady seen kept may_leave disk old gate → body ≡ body_of event ++ 0 ∷ []
+      → Enters old event new → OnOk r (seen after ≡ take gate (seen disk) ++ 1 ∷ body) → OnOk r (Only (seen after) (may_leave after)) → OnOk r (kept after ≡ seen after)
+      → OnOk r (IsReady seen kept may_leave after new (gate + length body))
+  ready_more disk after old new gate event body (Err e) ready is enters written durable same = tt
+  ready_more disk after old new gate event body (Ok x) ready is enters written durable same =
+      let file : seen after ≡ records (events_of old) ++ 1 ∷ (body_of event ++ 0 ∷ []) =
+      written ∙ ap (λ (l : List ℕ). l ++ 1 ∷ body) ready.front ∙ ap (λ (l : List ℕ). records (events_of old) ++ 1 ∷ l) is in
+      let gated : Gated (seen after) (events_of old ++ event ∷ []) (gate + length body) =
+      gated_more (seen after) (events_of old) event gate (length body) file ready.gate_is (ap length is) in
+      let more : events_of new ≡ events_of old ++ event ∷ [] = events_more old new event enters in
+      record {
+        front = gated.front ∙ ap records (sym more);
+        gate_is = gated.gate_is ∙ ap (λ (l : List Event). length (records l)) (sym more);
+        long = gated.long;
+        shut = gated.shut;
+        durable = durable;
+        kept_is = same;
+      }
+
+  -- and which leaves the history kept, where it was not
+  pub kept_failed : {T E : Type 0} (disk after : D) (old new : House) (gate : ℕ) (event : Event) (r : Result T E) → IsReady seen kept may_leave disk old gate → Enters old event new
+      → OnErr r (EndsBehind (take gate (seen disk)) (kept after)) → ((c : List ℕ) → may_leave after c → Holds (length old.history) new c) → OnErr r (IsKept kept may_leave (length old.history) after new)
+  kept_failed disk after old new gate event (Ok x) ready enters unkept left = tt
+  kept_failed disk after old new gate event (Err e) ready enters unkept left =
+      let front : take (length old.history) (events_of new) ≡ events_of old =
+      ap (λ (l : List Event). take (length old.history) l) (events_more old new event enters) ∙ take_at (events_of old) (event ∷ []) (length old.history) (length-events_of old) in
+      record {
+        crash = left;
+        kept_shows = subst (Shows (kept after)) (sym front) (subst (λ (l : List ℕ). EndsBehind l (kept after)) ready.front unkept);
+      }

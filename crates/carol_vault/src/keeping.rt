@@ -63,7 +63,8 @@ pub(crate) fn commit<D: Disk>(
     ensures enters { Enters house.old event.now house.new }
     ensures ready { OnOk result
         (IsReady D.seen D.kept D.may_leave disk.new house.new (gate + length body.now)) }
-    ensures kept { IsKept D.kept D.may_leave (length house.old.history) disk.new house.new }
+    ensures kept { OnErr result
+        (IsKept D.kept D.may_leave (length house.old.history) disk.new house.new) }
     ensures any_moment { LeavesOnly D.moment D.left_since disk.old disk.new
         (Holds (length house.old.history) house.new) }
     ensures ticks { TicksFour (D.moment disk.old) (D.moment disk.new) result }
@@ -71,9 +72,9 @@ pub(crate) fn commit<D: Disk>(
     ensures counted { D.faults disk.old ≤ D.faults disk.new }
     ensures limit { D.limit disk.new ≡ D.limit disk.old }
 {
-    let kept = append(disk, gate, body);
+    let done = append(disk, gate, body);
     enter(house, event);
-    kept
+    done
 }
 
 // Enters the event, which may come next and for which there is room.
