@@ -2,7 +2,7 @@
 use Rattle.std.specs.Prelude.{ℕ, zero, suc, ◌+◌, Bool, true, false, List, [], ◌∷◌, ◌++◌, codes, length, Option, Some, None}
 use Rattle.std.specs.Fmt.{decimal}
 use Rattle.carol_store.specs.declared.shape.CellKind.{CellKind}
-use Rattle.carol_store.specs.declared.shape.CellKind.TheVariants.{Counter, Peak, Flag}
+use Rattle.carol_store.specs.Kinds.{ways}
 use Rattle.carol_program.specs.declared.accords.Entry.{Entry}
 use Rattle.carol_program.specs.declared.accords.Entry.TheVariants.{Yes, No}
 use Rattle.carol_program.specs.declared.names.Names.{Names}
@@ -27,11 +27,14 @@ abbrev pub way_text : Names → Accords → ℕ → ℕ → Bool → List ℕ
 way_text names table guard cell up =
     name_at names.cells cell ++ (way_word up ++ (answer_word (entry_of table guard cell up) ++ line_feed))
 
--- the ways of a cell of this kind: a counter goes up and down, any other up
+-- these ways of the cell
+abbrev pub ways_text : Names → Accords → ℕ → ℕ → List Bool → List ℕ
+ways_text names table guard cell [] = []
+ways_text names table guard cell (up ∷ more) = way_text names table guard cell up ++ ways_text names table guard cell more
+
+-- the ways of a cell of this kind
 abbrev pub cell_text : Names → Accords → ℕ → ℕ → CellKind → List ℕ
-cell_text names table guard cell Counter = way_text names table guard cell true ++ way_text names table guard cell false
-cell_text names table guard cell Peak = way_text names table guard cell true
-cell_text names table guard cell Flag = way_text names table guard cell true
+cell_text names table guard cell kind = ways_text names table guard cell (ways kind)
 
 -- the cells from this one on, which have these kinds
 abbrev pub cells_text : Names → Accords → ℕ → ℕ → List CellKind → List ℕ

@@ -59,11 +59,12 @@ fn push_cell(
     ensures { OnOk result (out.new.items ≡ out.old.items
         ++ cell_text names.now table.now guard cell kind) }
 {
-    push_way(out, names, table, guard, cell, true)?;
-    match kind {
-        CellKind::Counter => push_way(out, names, table, guard, cell, false),
-        CellKind::Peak | CellKind::Flag => Ok(()),
+    let mut left = kind.ways();
+    while let Some((up, more)) = left.split_first() {
+        push_way(out, names, table, guard, cell, *up)?;
+        left = more;
     }
+    Ok(())
 }
 
 // Appends a guard with all cells.

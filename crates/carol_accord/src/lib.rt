@@ -36,7 +36,7 @@ use std::alloc::Global;
 /// is well formed. The table has an entry for each guard and step.
 pub fn infer(alloc: Global, program: &Program) -> Result<AccordTable, AccordError>
     requires { IsWellFormed (rules_in program.now) program.now.names }
-    ensures right { let p = rules_in program.now in IfOk result (IsRight p.shape p.guards) }
+    ensures right { let p = rules_in program.now in IfOk result (IsRight p) }
     ensures reflexive { let p = rules_in program.now
         in IfOk result (λ _. AllByRecursion (IsReflexive p) p.guards) }
     ensures witnesses { let p = rules_in program.now

@@ -6,7 +6,7 @@ pub mod Parting
 pub mod Asked
 pub mod Effects
 pub mod Marked
-pub mod Numbers
+pub mod NumbersFit
 pub mod Comparing
 pub mod Rulings
 pub mod Single

@@ -14,4 +14,3 @@ mod tally;
 mod tests;
 
 pub use grants::Grants;
-pub use row::{MOST_GUARDS, MOST_SESSIONS};

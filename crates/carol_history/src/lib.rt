@@ -10,10 +10,8 @@
 
 mod history;
 mod laws;
-mod outcome;
 mod script;
 
 pub use history::MOST_EVENTS;
 pub use laws::history_laws;
-pub use outcome::Outcome;
 pub use script::{BadStatement, ScriptCause, Statement, StatementList};

@@ -2,7 +2,7 @@ ghost use Rattle.std.specs.Prelude.{◌≡◌, ◌+◌, ◌<◌, ◌≤◌, ℕ,
 ghost use Rattle.carol_program.specs.Limits.{most_commands, most_guards, most_queries, most_statements, most_tries};
 ghost use Rattle.carol_program.specs.Rules.{rules_in};
 ghost use Rattle.carol_program.specs.Scenes.{IsPlanOf};
-ghost use Rattle.carol_history.specs.declared.outcome.Outcome.TheVariants as outcome;
+ghost use Rattle.carol_reading.specs.declared.outcome.Outcome.TheVariants as outcome;
 ghost use Rattle.carol_history.specs.Acts.{Act};
 ghost use Rattle.carol_machine.specs.Feeds.{IsActOf, MayBeFed, with_attempt, with_close, with_grant, with_outcome, with_refusal, with_store};
 ghost use Rattle.carol_machine.specs.States.{IsAt, present_in, state_of};
@@ -10,16 +10,11 @@ ghost use Rattle.carol_machine.specs.Wishes.{IsInOrder, IsWishOf, ReadsSoFar, St
 
 use crate::fed::Fed;
 use crate::wish::Wish;
-use carol_event::Cause;
-use carol_history::Outcome;
-use carol_program::SessionPlan;
-use carol_reading::{Accepted, Action, Walk, next_action};
+use carol_program::{MOST_GUARDS, SessionPlan};
+use carol_reading::{Accepted, Action, Cause, Outcome, Walk, next_action};
 use carol_store::Store;
 use std::alloc::{AllocError, Global};
 use std::marker::Model;
-
-// How many guards a program has at most.
-const MOST_GUARDS: usize = 16;
 
 /// The state of one session over its plan of commands.
 #[derive(Drop)]

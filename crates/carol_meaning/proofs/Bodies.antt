@@ -2,6 +2,7 @@
 use Rattle.std.proofs.Common.{◌≡◌, ℕ, ◌+◌, ◌<◌, ◌≤◌, inl, inr, List, [], ◌∷◌, ◌++◌, length, arith, length-append}
 use Rattle.std.specs.Prelude.{Option, Some, None, IfSome}
 use Rattle.std.specs.List.{AllByRecursion, flat_map}
+use Rattle.carol_store.specs.declared.shape.CellKind.{CellKind}
 use Rattle.carol_formula.specs.Linear.{Linear}
 use Rattle.carol_syntax.specs.declared.places.Ident.{Ident}
 use Rattle.carol_syntax.specs.declared.bodies.Statement.{Statement}
@@ -29,25 +30,25 @@ use Rattle.carol_meaning.proofs.Issues.{parts-apart, some-parts, parts-over}
 use Rattle.carol_meaning.proofs.Orders.{behind-slot}
 
 -- the names of a place stand for variables of the queries in these slots, which are narrow
-pub record IsPlace (cells params : ℕ) (slots : List ℕ) (scope : Scope) : Type 0 where
-  pub meanings : AreMeaningsIn (body_variables cells params slots) cells scope
+pub record IsPlace (cells : List CellKind) (params : ℕ) (slots : List ℕ) (scope : Scope) : Type 0 where
+  pub meanings : AreMeaningsIn (body_variables cells params slots) (length cells) scope
   pub narrow : AreNarrow (body_variables cells params slots)
 
 -- ---- places
 
-query-wider : (cells params slot : ℕ) (slots : List ℕ) → Widens (body_variables cells params slots) (body_variables cells params (slot ∷ slots))
+query-wider : (cells : List CellKind) (params slot : ℕ) (slots : List ℕ) → Widens (body_variables cells params slots) (body_variables cells params (slot ∷ slots))
 query-wider cells params slot slots v (inl h) = inl h
 query-wider cells params slot slots v (inr h) = inr (inr h)
 
-query-narrow : (cells params slot : ℕ) (slots : List ℕ) → cells ≤ most_cells → slot < most_queries → AreNarrow (body_variables cells params slots) → AreNarrow (body_variables cells params (slot ∷ slots))
+query-narrow : (cells : List CellKind) (params slot : ℕ) (slots : List ℕ) → length cells ≤ most_cells → slot < most_queries → AreNarrow (body_variables cells params slots) → AreNarrow (body_variables cells params (slot ∷ slots))
 query-narrow cells params slot slots few lt narrow v (inl h) = narrow v (inl h)
 query-narrow cells params slot slots few lt narrow v (inr (inl h)) = omega (arith, h.1, few, lt)
 query-narrow cells params slot slots few lt narrow v (inr (inr h)) = narrow v (inr h)
 
-queried-place : (cells params slot : ℕ) (slots word : List ℕ) (scope : Scope) → cells ≤ most_cells → slot < most_queries → IsPlace cells params slots scope → IsPlace cells params (slot ∷ slots) (declared word (Queried slot) scope)
+queried-place : (cells : List CellKind) (params slot : ℕ) (slots word : List ℕ) (scope : Scope) → length cells ≤ most_cells → slot < most_queries → IsPlace cells params slots scope → IsPlace cells params (slot ∷ slots) (declared word (Queried slot) scope)
 queried-place cells params slot slots word scope few lt place = record {
-  meanings = declared-in (body_variables cells params (slot ∷ slots)) cells word (Queried slot) scope (λ v h k. inr (inl (h, k)))
-      (meanings-wider (body_variables cells params slots) (body_variables cells params (slot ∷ slots)) cells (query-wider cells params slot slots) scope place.meanings);
+  meanings = declared-in (body_variables cells params (slot ∷ slots)) (length cells) word (Queried slot) scope (λ v h k. inr (inl (h, k)))
+      (meanings-wider (body_variables cells params slots) (body_variables cells params (slot ∷ slots)) (length cells) (query-wider cells params slot slots) scope place.meanings);
   narrow = query-narrow cells params slot slots few lt place.narrow;
 }
 
@@ -55,9 +56,9 @@ small-in : (ranges : List (ℕ × ℕ)) (t : Option Linear) → IfSome t (IsTerm
 small-in ranges None h = tt
 small-in ranges (Some t) h = either-way (λ o. IfSome o (λ u. AreAmong ranges u.pairs)) (is_small t) (Some t) None h.variables tt
 
-bound-place : (cells params : ℕ) (slots word : List ℕ) (term : Option Linear) (scope : Scope) → IfSome term (IsTermIn (body_variables cells params slots)) → IsPlace cells params slots scope → IsPlace cells params slots (declared word (Bound (small_or_none term)) scope)
+bound-place : (cells : List CellKind) (params : ℕ) (slots word : List ℕ) (term : Option Linear) (scope : Scope) → IfSome term (IsTermIn (body_variables cells params slots)) → IsPlace cells params slots scope → IsPlace cells params slots (declared word (Bound (small_or_none term)) scope)
 bound-place cells params slots word term scope h place = record {
-  meanings = declared-in (body_variables cells params slots) cells word (Bound (small_or_none term)) scope (small-in (body_variables cells params slots) term h) place.meanings;
+  meanings = declared-in (body_variables cells params slots) (length cells) word (Bound (small_or_none term)) scope (small-in (body_variables cells params slots) term h) place.meanings;
   narrow = place.narrow;
 }
 
@@ -68,14 +69,14 @@ guard-known guards guard (Some n) none h = h
 -- ---- bodies
 
 module _ (around : Around) (params : ℕ) (few : length (flat_map kinds_in around.cells) ≤ most_cells) where
-  abbrev cells : ℕ
-  cells = length (flat_map kinds_in around.cells)
+  abbrev cells : List CellKind
+  cells = flat_map kinds_in around.cells
 
   abbrev ranges : List ℕ → List (ℕ × ℕ)
   ranges slots = body_variables cells params slots
 
   abbrev setting : Setting
-  setting = record { kinds = flat_map kinds_in around.cells; guards = length around.guards; params = params }
+  setting = record { kinds = cells; guards = length around.guards; params = params }
 
   looks : (at : Point) (slots : List ℕ) → IsPlace cells params slots at.scope → LooksIn (ranges slots) (in_body around at)
   looks at slots place v = scope-looks (ranges slots) around.cells at.scope place.meanings v

@@ -1,6 +1,6 @@
 -- The cells that are declared: what a path names among them, how many there are, and how they start.
 use Rattle.std.proofs.Common.{◌≡◌, ℕ, zero, suc, ◌+◌, ◌<◌, ◌≤◌, inl, List, [], ◌∷◌, ◌++◌, map, length, arith, refl, sym, ◌∙◌, subst, length-append, append_assoc}
-use Rattle.std.specs.Prelude.{ℤ, pos, negsuc, unsigned_abs, Option, Some, None, IfSome, slice_get}
+use Rattle.std.specs.Prelude.{ℤ, pos, negsuc, unsigned_abs, Option, Some, None, IfSome, slice_get, codes}
 use Rattle.std.specs.List.{AllByRecursion, flat_map}
 use Rattle.std.specs.Str.{bytes_eq}
 use Rattle.std.proofs.lemmas.List.{length-map}
@@ -15,9 +15,9 @@ use Rattle.carol_syntax.specs.declared.cells.FieldKind.TheVariants.{Counter, Pea
 use Rattle.carol_syntax.specs.declared.cells.FieldDecl.{FieldDecl}
 use Rattle.carol_syntax.specs.declared.cells.CellDecl.{CellDecl}
 use Rattle.carol_syntax.specs.declared.cells.CellDecl.TheVariants.{Field, Set, Record}
-use Rattle.carol_syntax.specs.Shape.{IsWhole, StartsAs, IsField, IsCell}
+use Rattle.carol_syntax.specs.Shape.{IsName, IsWhole, StartsAs, IsField, IsCell}
 use Rattle.carol_syntax.specs.Size.{cell_count}
-use Rattle.carol_program.specs.Limits.{most_cells, largest_literal}
+use Rattle.carol_program.specs.Limits.{longest_path, most_cells, largest_literal}
 use Rattle.carol_program.specs.WellFormed.{StartsSmall, StartSmall}
 use Rattle.carol_meaning.specs.declared.named.Named.{Named}
 use Rattle.carol_meaning.specs.declared.named.Named.TheVariants.{Cell, Members, Missing, Misused}
@@ -122,6 +122,24 @@ few-cells ds h =
 
 pub cell-titles : (ds : List CellDecl) → length (flat_map titles_in ds) ≡ length (flat_map kinds_in ds)
 cell-titles ds = same_lengths titles_in kinds_in titles-kinds ds
+
+-- ---- how long their names are
+
+-- a set's or a record's name, and one inside it
+dotted-short : (group i : Ident) → IsName group → IsName i → length (dotted group i) ≤ longest_path
+dotted-short group i h k = omega (arith, length-append group.word (codes "." ++ i.word), length-append (codes ".") i.word, h.1, k.1)
+
+abbrev AreShortPaths : List (List ℕ) → Type 0
+AreShortPaths names = AllByRecursion (λ name. length name ≤ longest_path) names
+
+titles-short : (d : CellDecl) → IsCell d → AreShortPaths (titles_in d)
+titles-short (Field f) h = (omega (arith, h.0.1), tt)
+titles-short (Set name members) h = All-map IsName (λ title. length title ≤ longest_path) (dotted name) (λ m named. dotted-short name m h.0 named) members h.1.1
+titles-short (Record name fields) h = All-map IsField (λ title. length title ≤ longest_path) (λ f. dotted name f.name) (λ f named. dotted-short name f.name h.0 named.0) fields h.1.1
+
+pub short-titles : (ds : List CellDecl) → AllByRecursion IsCell ds → AreShortPaths (flat_map titles_in ds)
+short-titles [] h = tt
+short-titles (d ∷ ds) h = All-append (λ title. length title ≤ longest_path) (titles_in d) (flat_map titles_in ds) (titles-short d h.0) (short-titles ds h.1)
 
 -- ---- how they start
 

@@ -3,6 +3,7 @@ use Rattle.std.proofs.Common.{◌≡◌, ℕ, ◌+◌, ◌<◌, ◌≤◌, true,
 use Rattle.std.specs.Prelude.{if◌then◌else◌}
 use Rattle.std.specs.List.{AllByRecursion, flat_map}
 use Rattle.std.proofs.lemmas.List.{length-map}
+use Rattle.carol_store.specs.declared.shape.CellKind.{CellKind}
 use Rattle.carol_syntax.specs.declared.places.Ident.{Ident}
 use Rattle.carol_syntax.specs.declared.bodies.Statement.{Statement}
 use Rattle.carol_syntax.specs.declared.bodies.Statement.TheVariants as statement
@@ -84,8 +85,8 @@ refinements-over around n scope (p ∷ ps) room known none sized = (
 -- ---- the whole operation
 
 module _ (around : Around) (few-cells : length (flat_map kinds_in around.cells) ≤ most_cells) (o : OpTree) (shape : IsOp o) (sized : IsSizedOp o) (none : op_faults around o ≡ []) where
-  abbrev cells : ℕ
-  cells = length (flat_map kinds_in around.cells)
+  abbrev cells : List CellKind
+  cells = flat_map kinds_in around.cells
 
   abbrev params : ℕ
   params = length (refinements around 0 (refinement_scope o) o.params)
@@ -103,19 +104,19 @@ module _ (around : Around) (few-cells : length (flat_map kinds_in around.cells) 
   count : params ≡ length o.params
   count = refinements-count around 0 (refinement_scope o) o.params
 
-  outcome-known : AreMeaningsIn (outcome_variables params) cells (outcome_scope o)
-  outcome-known = with_params-in (outcome_variables params) cells 0 (refinement_scope o) o.params (λ k l. inl (omega arith, omega (arith, l, count))) (refinement-in (outcome_variables params) cells o)
+  outcome-known : AreMeaningsIn (outcome_variables params) (length cells) (outcome_scope o)
+  outcome-known = with_params-in (outcome_variables params) (length cells) 0 (refinement_scope o) o.params (λ k l. inl (omega arith, omega (arith, l, count))) (refinement-in (outcome_variables params) (length cells) o)
 
   start-place : IsPlace cells params [] (start_of o).scope
   start-place = record {
-    meanings = with_params-in (body_variables cells params []) cells 0 [] o.params (λ k l. inl (omega arith, omega (arith, l, count))) tt;
+    meanings = with_params-in (body_variables cells params []) (length cells) 0 [] o.params (λ k l. inl (omega arith, omega (arith, l, count))) tt;
     narrow = params-narrow params (omega (arith, few-params, count));
   }
 
   pub op-over : IsOpOver (flat_map kinds_in around.cells) (length around.guards) (op_meaning around o)
   op-over = record {
     few_params = omega (arith, few-params, count);
-    params = refinements-over around 0 (refinement_scope o) o.params (omega (arith, few-params)) (refinement-in (param_variables 0) cells o) (search no_part) sized.params.1;
+    params = refinements-over around 0 (refinement_scope o) o.params (omega (arith, few-params)) (refinement-in (param_variables 0) (length cells) o) (search no_part) sized.params.1;
     result = formula-over (outcome_variables params) (outcome-narrow params (omega (arith, few-params, count))) (in_scope around.cells true (outcome_scope o))
         (outcome-looks (outcome_variables params) around.cells (outcome_scope o) outcome-known (inr (inl (omega arith, omega arith)))) o.gives sized.gives (search no_part);
     body = body-fits around params few-cells o.body (start_of o) [] start-place (search no_part) shape.3 sized.body.parts (omega (arith, few-queries));

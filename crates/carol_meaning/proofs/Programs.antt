@@ -2,6 +2,7 @@
 use Rattle.std.proofs.Common.{◌≡◌, ℕ, ◌≤◌, inl, inr, List, [], ◌∷◌, map, length, arith, sym, ◌∙◌, subst}
 use Rattle.std.specs.List.{AllByRecursion, flat_map}
 use Rattle.std.proofs.lemmas.List.{length-map}
+use Rattle.carol_store.specs.declared.shape.CellKind.{CellKind}
 use Rattle.carol_formula.specs.Claim.{Claim}
 use Rattle.carol_syntax.specs.Files.{NamedFormula, OpTree, ProgramTree}
 use Rattle.carol_syntax.specs.Shape.{IsOp, IsProgram}
@@ -20,17 +21,17 @@ use Rattle.carol_meaning.specs.Laws.{FaultlessIsWellFormed}
 use Rattle.carol_meaning.proofs.Lists.{no_part, each-none, few, All-both, All-map}
 use Rattle.carol_meaning.proofs.Among.{AreNarrow}
 use Rattle.carol_meaning.proofs.Terms.{formula-over}
-use Rattle.carol_meaning.proofs.Cells.{few-cells, cell-titles, cells-start}
+use Rattle.carol_meaning.proofs.Cells.{few-cells, cell-titles, short-titles, cells-start}
 use Rattle.carol_meaning.proofs.Looks.{invariant-looks, guard-looks}
 use Rattle.carol_meaning.proofs.Operations.{op-over, op-called, words-short, names-of}
 
 -- ---- variables of stores
 
-invariant-narrow : (cells : ℕ) → cells ≤ most_cells → AreNarrow (invariant_variables cells)
+invariant-narrow : (cells : List CellKind) → length cells ≤ most_cells → AreNarrow (invariant_variables cells)
 invariant-narrow cells h v (inl k) = omega (arith, h, k.1)
 invariant-narrow cells h v (inr k) = absurd k
 
-guard-narrow : (cells : ℕ) → cells ≤ most_cells → AreNarrow (guard_variables cells)
+guard-narrow : (cells : List CellKind) → length cells ≤ most_cells → AreNarrow (guard_variables cells)
 guard-narrow cells h v (inl k) = omega (arith, h, k.1)
 guard-narrow cells h v (inr (inl k)) = omega (arith, h, k.1)
 guard-narrow cells h v (inr (inr k)) = absurd k
@@ -44,13 +45,13 @@ all-called around (o ∷ ops) h = (op-called around o h.0, all-called around ops
 -- ---- the program
 
 module _ (tree : ProgramTree) (shape : IsProgram tree) (sized : IsSizedProgram tree) (none : program_faults tree ≡ []) where
-  abbrev cells : ℕ
-  cells = length (flat_map kinds_in tree.cells)
+  abbrev cells : List CellKind
+  cells = flat_map kinds_in tree.cells
 
   abbrev guard : NamedFormula → Claim
   guard g = formula_meaning (in_guard tree.cells) g.formula
 
-  few-kinds : cells ≤ most_cells
+  few-kinds : length cells ≤ most_cells
   few-kinds = few-cells tree.cells (search no_part)
 
   few-guards : length (guard_names tree) ≤ most_guards
@@ -76,13 +77,13 @@ module _ (tree : ProgramTree) (shape : IsProgram tree) (sized : IsSizedProgram t
   guards-count : length (guard_names tree) ≡ length (map guard tree.guards)
   guards-count = length-map tree.guards (λ g. g.name) ∙ sym (length-map tree.guards guard)
 
-  op-fits : (o : OpTree) → IsOp o × (IsSizedOp o × (op_faults (around tree) o ≡ [])) → IsOpOver (flat_map kinds_in tree.cells) (length (map guard tree.guards)) (op_meaning (around tree) o)
-  op-fits o h = subst (λ n. IsOpOver (flat_map kinds_in tree.cells) n (op_meaning (around tree) o)) guards-count (op-over (around tree) few-kinds o h.0 h.1.0 h.1.1)
+  op-fits : (o : OpTree) → IsOp o × (IsSizedOp o × (op_faults (around tree) o ≡ [])) → IsOpOver cells (length (map guard tree.guards)) (op_meaning (around tree) o)
+  op-fits o h = subst (λ n. IsOpOver cells n (op_meaning (around tree) o)) guards-count (op-over (around tree) few-kinds o h.0 h.1.0 h.1.1)
 
-  ops-over : AllByRecursion (IsOpOver (flat_map kinds_in tree.cells) (length (map guard tree.guards))) (map (op_meaning (around tree)) tree.ops)
+  ops-over : AllByRecursion (IsOpOver cells (length (map guard tree.guards))) (map (op_meaning (around tree)) tree.ops)
   ops-over =
       let faultless = each-none (op_faults (around tree)) tree.ops (search no_part) in
-      All-map _ (IsOpOver (flat_map kinds_in tree.cells) (length (map guard tree.guards))) (op_meaning (around tree)) op-fits tree.ops
+      All-map _ (IsOpOver cells (length (map guard tree.guards))) (op_meaning (around tree)) op-fits tree.ops
       (All-both _ _ tree.ops shape.ops (All-both _ _ tree.ops sized.ops.1 faultless))
 
   rules : AreRules (rules_of tree)
@@ -101,6 +102,7 @@ module _ (tree : ProgramTree) (shape : IsProgram tree) (sized : IsSizedProgram t
   named : IsNamed (rules_of tree) (names_of tree)
   named = record {
     cells = cell-titles tree.cells;
+    short_cells = short-titles tree.cells shape.cells;
     guards = length-map (guard_names tree) (λ i. i.word) ∙ guards-count;
     short_guards = words-short (guard_names tree) (names-of tree.guards shape.guards);
     ops = all-called (around tree) tree.ops shape.ops;

@@ -207,7 +207,7 @@ fn push_names<'a>(names: &mut Vec<&'a Ident>, declaration: &'a CellDecl) -> Resu
 }
 
 /// Notes what is wrong with declarations of cells.
-#[tactic(auto, using(crate::proofs::Names::appended))]
+#[tactic(auto, using(crate::proofs::NameLaws::appended))]
 pub fn note_cells(
     alloc: Global,
     finder: &mut Finder,

@@ -13,9 +13,9 @@ use Rattle.carol_formula.specs.Value.{value_at}
 use Rattle.carol_formula.proofs.Sums.{value_at-sum_of}
 use Rattle.carol_formula.specs.Named.{through}
 use Rattle.carol_program.specs.declared.steps.Part.{Part}
-use Rattle.carol_program.specs.Variables.{invariant_variables, number_in}
+use Rattle.carol_program.specs.Variables.{invariant_variables, number_in, store_at}
 use Rattle.carol_reading.specs.Readings.{amount_for, before_atoms, effect_from, effect_of}
-use Rattle.carol_obligation.specs.Decoded.{round_variable, store_at}
+use Rattle.carol_obligation.specs.Decoded.{round_variable}
 use Rattle.carol_obligation.specs.Breaches.{AreTied}
 use Rattle.carol_obligation.specs.Formed.{after_name, cell_name}
 use Rattle.carol_obligation.proofs.Agreeing.{AgreeOn}
@@ -127,7 +127,7 @@ module _ (kinds : List CellKind) (f : ℕ → ℤ) where
     cell-done v lt = cell-after parts before v (length-store_at kinds (round_variable round 0) f) lt
 
     -- the terms have the numbers of the store after the effect
-    pub after-agrees : AreTied kinds after parts f → AgreeOn (invariant_variables (length kinds)) (through (after_name kinds parts round) f) (number_in after)
+    pub after-agrees : AreTied kinds after parts f → AgreeOn (invariant_variables kinds) (through (after_name kinds parts round) f) (number_in after)
     after-agrees tied v (inl h) = worth-cell round v (slice_get kinds v) (amount_for v parts) (number_in before v) (number_in after v)
         (worth-round f kinds round v (omega (arith, h.1))) (cell-done v (omega (arith, h.1))) (tied-for after v parts tied)
     after-agrees tied v (inr h) = absurd h

@@ -70,7 +70,7 @@ module _ (p : Rules) (op : OpRules) (rules : AreRules p) (over : IsOpOver p.shap
     exact-after parts fit = exact-site (After parts) (λ f. says-so (says-then
         (says-ties f p.shape (ranges_of p.shape (length op.params) way) parts (rounds_of way) parts fit.1 (each-found parts fit.2) (reading f))
         (λ h. says-not (truth p.invariant (number_in (after_at p.shape way parts f)))
-        (truth-named f (invariant_variables (length p.shape)) (after_name p.shape parts (rounds_of way)) _ p.invariant (after-agrees p.shape f parts (rounds_of way) h.1) rules.invariant)))
+        (truth-named f (invariant_variables p.shape) (after_name p.shape parts (rounds_of way)) _ p.invariant (after-agrees p.shape f parts (rounds_of way) h.1) rules.invariant)))
         (λ h. (h.0.0, (h.0.1, h.1)), λ h. ((h.0, h.1.0), h.1.1)))
 
   -- ---- a body

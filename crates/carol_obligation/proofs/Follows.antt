@@ -10,13 +10,13 @@ use Rattle.carol_store.specs.Stores.{IsStore}
 use Rattle.carol_formula.specs.Claim.{Claim, truth}
 use Rattle.carol_program.specs.declared.steps.Part.{Part}
 use Rattle.carol_program.specs.Bodies.{Body, Query, Issue, Release, Branch}
-use Rattle.carol_program.specs.Variables.{number_of_args, query_variable}
+use Rattle.carol_program.specs.Variables.{number_of_args, query_variable, store_at}
 use Rattle.carol_program.specs.WellFormed.{IsPartOver, IsFormulaOver}
 use Rattle.carol_reading.specs.Marks.{Mark, Asked, Issued, Released}
 use Rattle.carol_reading.specs.Readings.{Reads, effect_of}
 use Rattle.carol_reading.proofs.Following.{stops}
 use Rattle.carol_obligation.specs.Ways.{Way, Asks, Puts, Frees, Tests}
-use Rattle.carol_obligation.specs.Decoded.{args_at, store_at, marks_at, TestsGo}
+use Rattle.carol_obligation.specs.Decoded.{args_at, marks_at, TestsGo}
 use Rattle.carol_obligation.proofs.Agreeing.{effect_of-same, truth-same}
 use Rattle.carol_obligation.proofs.Seen.{seen, seen-same, ranges_of}
 use Rattle.carol_obligation.proofs.Equivalences.{same, chain, both, swapped}

@@ -11,7 +11,7 @@ use Rattle.carol_formula.specs.Claim.{Claim, truth}
 use Rattle.carol_program.specs.declared.steps.Part.{Part}
 use Rattle.carol_program.specs.Bodies.{Body, Query, Issue, Release, Branch, queries_in}
 use Rattle.carol_program.specs.Rules.{Rules, OpRules}
-use Rattle.carol_program.specs.Variables.{number_of_args, query_variable}
+use Rattle.carol_program.specs.Variables.{number_of_args, query_variable, store_at}
 use Rattle.carol_program.specs.WellFormed.{AreRules, IsFitBody, IsFormulaOver, IsOpOver, SlotsFrom, setting_of}
 use Rattle.carol_reading.specs.Good.{Meet, IsReading, MayLeave}
 use Rattle.carol_reading.specs.Marks.{Mark, Asked, Issued, Released}
@@ -19,7 +19,7 @@ use Rattle.carol_reading.specs.Readings.{Reads, placed, effect_of}
 use Rattle.carol_reading.specs.Rounds.{IsSound, GuardsIn, IsProper}
 use Rattle.carol_obligation.specs.Ways.{Way, Asks, Puts, Frees, Tests, rounds_of, has_query}
 use Rattle.carol_obligation.specs.Sites.{After, amount_sites, sites}
-use Rattle.carol_obligation.specs.Decoded.{round_variable, store_at, args_at, marks_at, open_at, TestsGo}
+use Rattle.carol_obligation.specs.Decoded.{round_variable, args_at, marks_at, open_at, TestsGo}
 use Rattle.carol_obligation.specs.Breaches.{IsReadingAlong}
 use Rattle.carol_obligation.specs.Places.{sites_of}
 use Rattle.carol_obligation.specs.GoodLaw.{HasNoBreach}

@@ -12,11 +12,11 @@ use Rattle.carol_formula.specs.Claim.{Claim, True, And, truth}
 use Rattle.carol_formula.specs.Linear.{variable_of, constant_of}
 use Rattle.carol_program.specs.Rules.{Rules, OpRules}
 use Rattle.carol_program.specs.Scenes.{MeetsAll}
-use Rattle.carol_program.specs.Variables.{guard_variables, number_in, number_in_two, number_of_args, query_variable}
+use Rattle.carol_program.specs.Variables.{guard_variables, number_in, number_in_two, number_of_args, query_variable, store_at}
 use Rattle.carol_program.specs.WellFormed.{AreRules, AreRefinements, IsFormulaOver}
 use Rattle.carol_reading.specs.Rounds.{IsSound, GuardsIn}
 use Rattle.carol_obligation.specs.Ways.{Way, Asks, Puts, Frees, Tests, rounds_of, has_query}
-use Rattle.carol_obligation.specs.Decoded.{round_variable, store_at, args_at, TestsGo}
+use Rattle.carol_obligation.specs.Decoded.{round_variable, args_at, TestsGo}
 use Rattle.carol_obligation.specs.Formed.{at_most, with_flags, with_round, guard_at, with_closing, with_all, known_along}
 use Rattle.carol_obligation.proofs.Follows.{AreShaped}
 use Rattle.carol_obligation.proofs.Rounds.{IsClosed, RoundsGo}
@@ -86,7 +86,7 @@ module _ (p : Rules) (rules : AreRules p) (f : ℕ → ℤ) where
   says-closing true round h = says-round round h
   says-closing false round h = says-so h with_nothing
 
-  says-guard : (guard : Option Claim) → IfSome guard (IsFormulaOver (guard_variables (length p.shape))) → (slot round : ℕ) {known : Claim} {P : Type 0} → Says known f P →
+  says-guard : (guard : Option Claim) → IfSome guard (IsFormulaOver (guard_variables p.shape)) → (slot round : ℕ) {known : Claim} {P : Type 0} → Says known f P →
       Says (guard_at p guard slot round known) f (P × IsStore p.shape (store_at p.shape (query_variable slot 0) f) × GuardsIn guard (store_at p.shape (query_variable slot 0) f) (store_at p.shape (round_variable round 0) f))
   says-guard None over slot round h = record { is = (λ e. absurd (false≢true e), λ s. absurd s.2) }
   says-guard (Some guard) over slot round h = says-so

@@ -9,9 +9,9 @@ use Rattle.carol_formula.specs.Linear.{Linear, variable_of}
 use Rattle.carol_formula.specs.Value.{value_at, set_at}
 use Rattle.carol_formula.specs.Named.{named_claim, through}
 use Rattle.carol_formula.proofs.Renamings.{truth-named_claim}
-use Rattle.carol_program.specs.Variables.{invariant_variables, guard_variables, param_variables, outcome_variables, number_in, number_in_two, number_of_args, query_variable, result_variable}
+use Rattle.carol_program.specs.Variables.{invariant_variables, guard_variables, param_variables, outcome_variables, number_in, number_in_two, number_of_args, query_variable, result_variable, store_at}
 use Rattle.carol_program.specs.WellFormed.{IsFormulaOver}
-use Rattle.carol_obligation.specs.Decoded.{round_variable, store_at, args_at}
+use Rattle.carol_obligation.specs.Decoded.{round_variable, args_at}
 use Rattle.carol_obligation.specs.Formed.{round_name, guard_name, result_name}
 use Rattle.carol_obligation.proofs.Agreeing.{AgreeOn, truth-same}
 use Rattle.carol_obligation.proofs.Seen.{store_at-at, start-same}
@@ -35,23 +35,23 @@ module _ (f : ℕ → ℤ) where
     worth-query : (slot v : ℕ) → v < length kinds → value_at (variable_of (query_variable slot v)) f ≡ number_in (store_at kinds (query_variable slot 0) f) v
     worth-query slot v lt = value_at-variable (query_variable slot v) f ∙ ap f (omega arith) ∙ sym (store_at-at kinds (query_variable slot 0) f v lt)
 
-    round-agrees : (round : ℕ) → AgreeOn (invariant_variables (length kinds)) (through (round_name round) f) (number_in (store_at kinds (round_variable round 0) f))
+    round-agrees : (round : ℕ) → AgreeOn (invariant_variables kinds) (through (round_name round) f) (number_in (store_at kinds (round_variable round 0) f))
     round-agrees round v (inl h) = worth-round round v (omega (arith, h.1))
     round-agrees round v (inr h) = absurd h
 
     -- the invariant, read of a round
-    pub truth-round : (round : ℕ) (c : Claim) → IsFormulaOver (invariant_variables (length kinds)) c → truth (named_claim (round_name round) c) f ≡ truth c (number_in (store_at kinds (round_variable round 0) f))
-    truth-round round c over = truth-named (invariant_variables (length kinds)) (round_name round) _ c (round-agrees round) over
+    pub truth-round : (round : ℕ) (c : Claim) → IsFormulaOver (invariant_variables kinds) c → truth (named_claim (round_name round) c) f ≡ truth c (number_in (store_at kinds (round_variable round 0) f))
+    truth-round round c over = truth-named (invariant_variables kinds) (round_name round) _ c (round-agrees round) over
 
     module _ (few : length kinds ≤ 16) (slot round : ℕ) where
-      guard-agrees : AgreeOn (guard_variables (length kinds)) (through (guard_name slot round) f) (number_in_two (store_at kinds (query_variable slot 0) f) (store_at kinds (round_variable round 0) f))
+      guard-agrees : AgreeOn (guard_variables kinds) (through (guard_name slot round) f) (number_in_two (store_at kinds (query_variable slot 0) f) (store_at kinds (round_variable round 0) f))
       guard-agrees v (inl h) = worth-either (nat_lt v 16) _ _ _ _ (λ e. worth-query slot v (omega (arith, h.1))) (λ e. absurd (omega (arith, h.1, ltb-false v 16 e)))
       guard-agrees v (inr (inl h)) = worth-either (nat_lt v 16) _ _ _ _ (λ e. absurd (omega (arith, h.0, ltb-true v 16 e))) (λ e. worth-round round (v - 16) (omega (arith, h.0, h.1)))
       guard-agrees v (inr (inr h)) = absurd h
 
       -- a guard, read of a query and of a round
-      pub truth-guard : (c : Claim) → IsFormulaOver (guard_variables (length kinds)) c → truth (named_claim (guard_name slot round) c) f ≡ truth c (number_in_two (store_at kinds (query_variable slot 0) f) (store_at kinds (round_variable round 0) f))
-      truth-guard c over = truth-named (guard_variables (length kinds)) (guard_name slot round) _ c guard-agrees over
+      pub truth-guard : (c : Claim) → IsFormulaOver (guard_variables kinds) c → truth (named_claim (guard_name slot round) c) f ≡ truth c (number_in_two (store_at kinds (query_variable slot 0) f) (store_at kinds (round_variable round 0) f))
+      truth-guard c over = truth-named (guard_variables kinds) (guard_name slot round) _ c guard-agrees over
 
   -- ---- arguments
 

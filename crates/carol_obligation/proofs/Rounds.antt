@@ -4,12 +4,12 @@ use Rattle.std.proofs.Common.{◌≡◌, ℕ, Bool, true, false, List, [], ◌�
 use Rattle.std.specs.Prelude.{◌↔◌, ℤ, if◌then◌else◌, slice_get}
 use Rattle.carol_store.specs.Kinds.{CellValue}
 use Rattle.carol_program.specs.Rules.{Rules}
-use Rattle.carol_program.specs.Variables.{query_variable}
+use Rattle.carol_program.specs.Variables.{query_variable, store_at}
 use Rattle.carol_reading.specs.Marks.{Mark, Asked, Issued, Released}
 use Rattle.carol_reading.specs.Readings.{effect_of}
 use Rattle.carol_reading.specs.Rounds.{IsSound, GuardsIn, IsProper}
 use Rattle.carol_obligation.specs.Ways.{Way, Asks, Puts, Frees, Tests, has_query}
-use Rattle.carol_obligation.specs.Decoded.{store_at, marks_at, open_at, closed_at, ended_at}
+use Rattle.carol_obligation.specs.Decoded.{marks_at, open_at, closed_at, ended_at}
 use Rattle.carol_obligation.proofs.Equivalences.{same, chain}
 
 -- a round that is over is sound, if it has a query

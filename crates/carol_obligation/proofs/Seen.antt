@@ -4,10 +4,10 @@ use Rattle.std.specs.Prelude.{ℤ, pos, nat_lt}
 use Rattle.std.proofs.lemmas.Bool.{cond_both, cond-false, le-ltb, ltb-true, ltb-false}
 use Rattle.carol_store.specs.declared.shape.CellKind.{CellKind}
 use Rattle.carol_store.specs.Kinds.{CellValue}
-use Rattle.carol_program.specs.Variables.{body_variables, number_in, number_of_args, query_variable}
+use Rattle.carol_program.specs.Variables.{body_variables, number_in, number_of_args, query_variable, store_at}
 use Rattle.carol_reading.specs.Readings.{placed, with_query}
 use Rattle.carol_obligation.specs.Ways.{Way, Asks, Puts, Frees, Tests}
-use Rattle.carol_obligation.specs.Decoded.{store_at, args_from, args_at}
+use Rattle.carol_obligation.specs.Decoded.{args_from, args_at}
 use Rattle.carol_obligation.proofs.Agreeing.{AgreeOn}
 
 -- ---- stores and arguments among numbers
@@ -87,7 +87,7 @@ seen kinds params (Tests test side ∷ way) f = seen kinds params way f
 
 -- the variables that a body may use there
 abbrev pub ranges_of : List CellKind → ℕ → Way → List (ℕ × ℕ)
-ranges_of kinds params way = body_variables (length kinds) params (slots_of way)
+ranges_of kinds params way = body_variables kinds params (slots_of way)
 
 module _ (kinds : List CellKind) (params : ℕ) (f : ℕ → ℤ) where
   pub start-same : (v : ℕ) → 32 ≤ v → v < 32 + params → number_of_args (args_at params f) v ≡ f v

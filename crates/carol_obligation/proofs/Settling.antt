@@ -5,10 +5,10 @@ use Rattle.std.specs.List.{AllByRecursion}
 use Rattle.std.proofs.lemmas.Bool.{cond-true, cond-false, le-ltb, lt-ltb}
 use Rattle.carol_store.specs.declared.shape.CellKind.{CellKind}
 use Rattle.carol_store.specs.Kinds.{CellValue}
-use Rattle.carol_program.specs.Variables.{IsAmong, number_in, number_of_args, query_variable}
+use Rattle.carol_program.specs.Variables.{IsAmong, number_in, number_of_args, query_variable, store_at}
 use Rattle.carol_reading.specs.Readings.{placed}
 use Rattle.carol_obligation.specs.Ways.{Way}
-use Rattle.carol_obligation.specs.Decoded.{round_variable, store_at, args_at}
+use Rattle.carol_obligation.specs.Decoded.{round_variable, args_at}
 use Rattle.carol_obligation.proofs.Agreeing.{AgreeOn}
 use Rattle.carol_obligation.proofs.Seen.{number_of_args-at, store_at-same, args_from-same, placed-out, placed-in, slots_of, ranges_of}
 

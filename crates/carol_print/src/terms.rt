@@ -42,7 +42,7 @@ fn push_sized(out: &mut Vec<u8>, word: &str, parts: &[Ident]) -> Result<(), Allo
 }
 
 // Appends a value.
-#[tactic(auto, using(crate::proofs::Lists::text_of_both))]
+#[tactic(auto, using(crate::proofs::LaidLists::text_of_both))]
 fn push_value(out: &mut Vec<u8>, value: &ValueDecl) -> Result<(), AllocError>
     ensures { OnOk result (out.new.items ≡ out.old.items ++ text_of (canon.value value.now)) }
 {

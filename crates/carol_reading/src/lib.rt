@@ -9,10 +9,13 @@ mod action;
 mod effect;
 mod next;
 mod numbers;
+mod outcome;
 mod walk;
 
 pub use accepted::Accepted;
 pub use action::Action;
+pub use carol_event::Cause;
 pub use effect::amount_for;
 pub use next::next_action;
+pub use outcome::Outcome;
 pub use walk::Walk;

@@ -8,8 +8,8 @@ use Rattle.carol_program.specs.declared.scenes.Scene.{Scene}
 use Rattle.carol_program.specs.declared.scenes.SessionPlan.{SessionPlan}
 use Rattle.carol_event.specs.declared.event.Event.{Event}
 use Rattle.carol_event.specs.Texts.{values_text}
-use Rattle.carol_history.specs.declared.outcome.Outcome.{Outcome}
-use Rattle.carol_history.specs.declared.outcome.Outcome.TheVariants.{NotDone, Value, Refused}
+use Rattle.carol_reading.specs.declared.outcome.Outcome.{Outcome}
+use Rattle.carol_reading.specs.declared.outcome.Outcome.TheVariants.{NotDone, Value, Refused}
 use Rattle.carol_history.specs.Journals.{global, journal}
 use Rattle.carol_history.specs.Results.{result}
 

@@ -7,9 +7,9 @@ ghost use Rattle.carol_report.specs.Issues.{is_issue};
 ghost use Rattle.carol_report.specs.Summary.{is_refused, refused_in, refused_of};
 
 use carol_event::Event;
-use carol_history::Outcome;
 use carol_house::House;
 use carol_program::Scene;
+use carol_reading::Outcome;
 
 /// How many commands the scene's sessions have, which are at most 4,096.
 pub fn commands_in(scene: &Scene) -> u32

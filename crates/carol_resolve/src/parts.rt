@@ -17,12 +17,9 @@ use carol_formula::Formula;
 use carol_names::{
     Cells, Finder, InGuard, InInvariant, formula, note_cells, note_too_many, note_twice,
 };
-use carol_program::{Guard, GuardList, OpList, OpNameList};
+use carol_program::{Guard, GuardList, MOST_GUARDS, OpList, OpNameList};
 use carol_syntax::{GuardDecl, OpDecl, ProgramDecl};
 use std::alloc::{AllocError, Global};
-
-/// The most guards of a program.
-const MOST_GUARDS: usize = 16;
 
 /// The most operations of a program.
 const MOST_OPS: usize = 64;

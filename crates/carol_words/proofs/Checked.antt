@@ -20,9 +20,9 @@ accorded_own : (kept : Kept) (answer : Answer) → IsAccorded kept answer → Is
 accorded_own kept answer h = subst (λ a. IsOfAccepted a.0) (sym h) tt
 
 -- a table that is told is whole
-whole_in : (program : Program) (kept : Kept) (p : Rules) → rules_in program ≡ p → IsKeptAs program kept → IsWhole p.shape p.guards kept.accords
+whole_in : (program : Program) (kept : Kept) (p : Rules) → rules_in program ≡ p → IsKeptAs program kept → IsWhole p kept.accords
 whole_in program kept p same is = record {
-  right = subst (λ (r : Rules). IsRight r.shape r.guards kept.accords) same is.may_be.right;
+  right = subst (λ (r : Rules). IsRight r kept.accords) same is.may_be.right;
   whole = is.whole;
 }
 

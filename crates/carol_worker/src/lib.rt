@@ -6,15 +6,16 @@
 
 mod desk;
 mod finish;
+mod held;
 mod roster;
 mod rule;
 mod running;
-mod second;
 mod serving;
 mod tally;
 mod threads;
 
 pub use desk::{Desk, LockedDesk, OwnDesk};
+pub use held::{AtHouse, Held, Start};
 pub use roster::{Roster, Taker, TakerList};
 pub use running::run_scene;
 pub use serving::{Served, serve};

@@ -1,4 +1,4 @@
-use Rattle.carol_audit.proofs.Numbers.{numbers_fit}
+use Rattle.carol_audit.proofs.NumbersFit.{numbers_fit}
 use Rattle.carol_audit.proofs.numbers.event_numbers.Goals as goal
 
 pub returns : goal.returns
