@@ -7,14 +7,14 @@
 mod audit;
 mod check;
 mod fresh;
-mod gen;
+mod generated;
 mod laws;
 mod run;
 mod step;
 
 pub use audit::audit_bytes;
 pub use check::check_bytes;
-pub use gen::sum_up;
+pub use generated::sum_up;
 pub use laws::audit_laws;
 pub use run::run_bytes;
 pub use step::step_bytes;
