@@ -8,7 +8,7 @@ ghost use Rattle.std.specs.Prelude.{◌≤◌, IfOk};
 ghost use Rattle.carol_formula.specs.Bounds.{narrow_limit};
 ghost use Rattle.carol_formula.specs.Claim.{HasNoNot, ClaimWithin};
 ghost use Rattle.carol_formula.specs.Tree.{claim_of};
-ghost use Rattle.carol_decide.specs.Sizes.{nodes_of};
+ghost use Rattle.carol_formula.specs.Size.{nodes_of};
 ghost use Rattle.carol_decide.specs.Answer.{IsAnswer, Settles};
 
 mod answer;
@@ -23,7 +23,7 @@ mod table;
 mod walk;
 
 use crate::walk::Walk;
-pub use answer::{Answer, Why};
+pub use answer::{Answer, MOST_LEAVES, Why};
 use carol_formula::Formula;
 pub use fitting::can_decide;
 use std::alloc::{AllocError, Global};
