@@ -19,8 +19,8 @@ use crate::tally::try_file;
 use std::fs;
 
 // The files of cases.
-const FILES: [&str; 10] = [
-    "words", "texts", "limits", "scenes", "check", "step", "run", "audit", "cuts", "long",
+const FILES: [&str; 11] = [
+    "words", "texts", "limits", "scenes", "check", "systems", "step", "run", "audit", "cuts", "long",
 ];
 
 fn main(rt: HostRuntime) -> anyhow::Result<()> {
