@@ -60,7 +60,7 @@ module _ (name : ℕ → List ℕ) (f g : ℕ → ℤ) (near_f : AreNear (2 ^ 12
   queries_parts cells (a ∷ asked) x y e =
       let base = query_variable a.slot 0
       in let first = numbers_parts cells base base (queries_text name f cells asked ++ x) (queries_text name g cells asked ++ y)
-          (sym (append_assoc (own_text name f cells base) (queries_text name f cells asked) x) ∙ e ∙ append_assoc (own_text name g cells base) (queries_text name g cells asked) y)
+      (sym (append_assoc (own_text name f cells base) (queries_text name f cells asked) x) ∙ e ∙ append_assoc (own_text name g cells base) (queries_text name g cells asked) y)
       in let more = queries_parts cells asked x y first.1
       in ((first.0, more.0), more.1)
 

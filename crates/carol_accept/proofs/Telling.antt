@@ -103,9 +103,9 @@ module _ (p : Rules) (names : Names) (place : Place) (op : OpRules) (site : Site
       in let queries = queries_parts name f g near_f near_g cells t.asked (rounds_text name f cells t (t.rounds + 1) 0) (rounds_text name g cells t (t.rounds + 1) 0) params.1
       in let rounds = rounds_parts name f g near_f near_g cells t (t.rounds + 1) 0 queries.1
       in let own : (r : ℕ) → r ≤ rounds_of site.way → asks_in r t.asked ≡ true → SameFrom f g (round_variable r 0) cells =
-          λ r low h. subst (λ (n : ℕ). SameFrom f g (round_variable n 0) cells) (shown-own t r h) (rounds r (omega arith) (omega (arith, low, rounds_same site.way)))
+      λ r low h. subst (λ (n : ℕ). SameFrom f g (round_variable n 0) cells) (shown-own t r h) (rounds r (omega arith) (omega (arith, low, rounds_same site.way)))
       in let open_round : SameFrom f g (round_variable (rounds_of site.way) 0) cells =
-          subst (λ (n : ℕ). SameFrom f g (round_variable n 0) cells) (shown-last t ∙ rounds_same site.way) (rounds t.rounds (omega arith) (omega arith))
+      subst (λ (n : ℕ). SameFrom f g (round_variable n 0) cells) (shown-last t ∙ rounds_same site.way) (rounds t.rounds (omega arith) (omega arith))
       in breach_as p op site f g fit params.0 (same_along cells (rounds_of site.way) f g t.asked queries.0 own site.way [] (omega arith) (append-nil t.asked)) open_round ties
 
 lines_at : (p : Rules) (names : Names) (number n : ℕ) (ending : Ending) (f : ℕ → ℤ) → lines_text p names (place_of number n ending) f ≡ statement_lines (variable_text names (place_of number n ending)) f (length p.shape) n (slice_get p.ops number)

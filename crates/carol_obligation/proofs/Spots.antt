@@ -76,8 +76,7 @@ owed_at_spots p (o ∷ list) (s ∷ spots) e exact = (owed_there p o s (heads e)
 pub narrow_decidable : (list : List Obligation) → AreDecidable list → AreNarrow list
 narrow_decidable [] h = tt
 narrow_decidable (o ∷ list) h =
-    let c = claim_of o.formula in
-    (
+    let c = claim_of o.formula in (
       (record { narrow = narrow_light c h.0.light; few = omega (arith, h.0.few) }, record { narrow = narrow_without_not false c h.0.light; few = omega (arith, h.0.few, nodes-without_not false c) }),
       narrow_decidable list h.1,
     )

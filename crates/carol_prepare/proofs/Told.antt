@@ -1,6 +1,6 @@
 -- What is told on the way is what is said of the bytes, whatever is said of a program that comes further.
 use Rattle.std.proofs.Common.{◌≡◌, List, ℕ, refl, sym, ◌∙◌, ap, subst, inl, inr}
-use Rattle.std.specs.Prelude.{◌⊎◌, Option, Some, None, Err}
+use Rattle.std.specs.Prelude.{◌⊎◌, Option, Some, None, Result, Ok, Err, IfErr}
 use Rattle.carol_accept.specs.Refusals.{IsKeptAs}
 use Rattle.carol_grammar.specs.Outcome.{Outcome, Read, Bad, Large, Means}
 use Rattle.carol_meaning.specs.declared.fault.Fault.{Fault}
@@ -38,6 +38,15 @@ some_same a b e = cc
 none_some : (a : Answer) → None ≡ Some a → ⊥
 none_some a e = cc
 
+-- what an error tells has what follows
+pub err_map : {A : Type 0} (one two : Halt → Type 0) → ((halt : Halt) → one halt → two halt) → (r : Result A Halt) → IfErr r one → IfErr r two
+err_map one two to (Ok value) h = tt
+err_map one two to (Err halt) h = to halt h
+
+-- this is the error
+pub told_err : {A : Type 0} (has : Halt → Type 0) (halt : Halt) (r : Result A Halt) → r ≡ Err halt → has halt → IfErr r has
+told_err has halt r is h = subst (λ x. IfErr x has) (sym is) h
+
 -- ---- each fault
 
 -- a text isn't read
@@ -67,19 +76,19 @@ pub told_name : (tree : ProgramTree) (error : NameError) (halt : Halt)
 told_name tree error halt first = halt_told (name_answer error) (IsToldName tree) (λ answer told. name_told tree error answer first told) halt
 
 -- or with the scene
-refuses_first : (faults : List SceneError) (bad : SceneError) (answer : Answer) → Refuses faults bad → (bad ≡ bad_scene.NoMemory → ⊥) → first_of faults ≡ Some bad
-refuses_first faults (bad_scene.OutOfRange limit span) answer h other = h
-refuses_first faults (bad_scene.Unknown span) answer h other = h
-refuses_first faults (bad_scene.Arity span) answer h other = h
-refuses_first faults (bad_scene.NoSuchReplica session) answer h other = h
-refuses_first faults (bad_scene.BadArgument session command parameter) answer h other = h
-refuses_first faults bad_scene.NoMemory answer h other = absurd (other refl)
+refuses_first : (faults : List SceneError) (bad : SceneError) → Refuses faults bad → (bad ≡ bad_scene.NoMemory → ⊥) → first_of faults ≡ Some bad
+refuses_first faults (bad_scene.OutOfRange limit span) h other = h
+refuses_first faults (bad_scene.Unknown span) h other = h
+refuses_first faults (bad_scene.Arity span) h other = h
+refuses_first faults (bad_scene.NoSuchReplica session) h other = h
+refuses_first faults (bad_scene.BadArgument session command parameter) h other = h
+refuses_first faults bad_scene.NoMemory h other = absurd (other refl)
 
 pub told_scene : (program : Program) (written : SceneDecl) (bad : SceneError) (halt : Halt) → Refuses (faults_of program written) bad → (bad ≡ bad_scene.NoMemory → ⊥)
     → HaltTells (Some (line_answer (line.BadScene bad))) halt → HaltSays (IsToldScene program written) halt
 told_scene program written bad halt refuses other =
     halt_told (Some (line_answer (line.BadScene bad))) (IsToldScene program written)
-    (λ answer told. record { bad = bad; first = refuses_first (faults_of program written) bad answer refuses other; told = sym (some_same _ _ told) }) halt
+    (λ answer told. record { bad = bad; first = refuses_first (faults_of program written) bad refuses other; told = sym (some_same _ _ told) }) halt
 
 -- ---- what is told where nothing more is said, whatever is
 

@@ -2,7 +2,7 @@ ghost use Rattle.std.specs.Prelude.{◌≡◌, ◌≢◌, ◌≤◌, [], ◌∷�
 ghost use Rattle.carol_outer.specs.Faults.{Rose};
 ghost use Rattle.carol_reply.specs.Meaning.{IsReply};
 ghost use Rattle.carol_reply.specs.Reply.{answer_of, outcome_answer};
-ghost use Rattle.carol_scenario.specs.declared.generator.TheConstants.{MOST_PER_SESSION};
+ghost use Rattle.carol_generator.specs.declared.generator.TheConstants.{MOST_PER_SESSION};
 ghost use Rattle.carol_syntax.specs.Limits.{most_text_bytes};
 ghost use Rattle.carol_tool.specs.Answer.{Answered, AnsweredBy, End, MeantBy, Wrote, end_of};
 ghost use Rattle.carol_tool.specs.Words.{IsCounted, texts, word_meaning};

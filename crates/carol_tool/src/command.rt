@@ -1,7 +1,7 @@
 ghost use Rattle.std.specs.Prelude.{◌≡◌, [], ◌∷◌};
 ghost use Rattle.carol_tool.specs.Words.{IsCounted, texts, command_of, spelled_count};
 
-use carol_scenario::MOST_PER_SESSION;
+use carol_generator::MOST_PER_SESSION;
 use carol_text::number;
 
 /// A word that reads its input, and waits for nobody.

@@ -34,7 +34,7 @@ abbrev pub IsFirstIllegal : Rules → Scene → List Event → ℕ → Type 0
 IsFirstIllegal p scene events number =
     (IsFirstFalse p scene events number × (number ≤ MOST_EVENTS))
     ⊎ ((number ≡ MOST_EVENTS + 1) × (MOST_EVENTS < length events)
-      × Run p scene (reverse (take MOST_EVENTS events)))
+    × Run p scene (reverse (take MOST_EVENTS events)))
 
 -- the file keeps the events, which are a history that the program can make in the scene
 pub record IsSound (p : Rules) (scene : Scene) (file : List ℕ) (events : List Event) : Type 0 where

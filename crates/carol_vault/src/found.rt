@@ -3,7 +3,6 @@ ghost use Rattle.carol_program.specs.Rules.{rules_in};
 ghost use Rattle.carol_program.specs.Scenes.{IsValidScene};
 ghost use Rattle.carol_vault.specs.Finding.{IsClosed, IsOpen, Tells};
 
-
 use carol_audit::{Ruling, audit};
 use carol_house::{House, MOST_EVENTS};
 use carol_program::Scene;

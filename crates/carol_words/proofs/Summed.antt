@@ -16,7 +16,7 @@ use Rattle.carol_reply.proofs.Agreeing.{Agrees, IsSettled, agree_same}
 use Rattle.carol_report.specs.Laws.{TurnsMakeOne}
 use Rattle.carol_report.specs.Summary.{summary_text}
 use Rattle.carol_report.specs.Turns.{Turns}
-use Rattle.carol_scenario.specs.Generated.{generated_text}
+use Rattle.carol_generator.specs.Generated.{generated_text}
 use Rattle.carol_simulation.specs.Laws.{RunsAreShort}
 use Rattle.carol_words.specs.Gen.{IsSummed, SceneSums, gen_meaning, gen_words}
 use Rattle.carol_words.proofs.Stepped.{same_rules}

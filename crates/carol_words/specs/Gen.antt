@@ -15,7 +15,7 @@ use Rattle.carol_reply.specs.Meaning.{Meaning}
 use Rattle.carol_reply.specs.Texts.{Answer}
 use Rattle.carol_report.specs.Summary.{summary_text}
 use Rattle.carol_report.specs.Turns.{Turns}
-use Rattle.carol_scenario.specs.Generated.{generated_text}
+use Rattle.carol_generator.specs.Generated.{generated_text}
 use Rattle.carol_simulation.specs.Upheld.{Upheld}
 
 -- The history is summed up that the sessions of the scene make from no events, when they go on in

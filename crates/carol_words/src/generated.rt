@@ -10,7 +10,7 @@ use carol_house::House;
 use carol_prepare::{Placed, take_scene};
 use carol_reply::{Halt, Reply, Status, ended};
 use carol_report::{run_in_turns, summary, turns_laws};
-use carol_scenario::{MOST_PER_SESSION, generate};
+use carol_generator::{MOST_PER_SESSION, generate};
 use carol_simulation::bound_laws;
 use std::alloc::{AllocError, Global};
 use std::thread::Threads;
