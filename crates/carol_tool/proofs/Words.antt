@@ -142,3 +142,9 @@ gen_within [] n e = cc
 gen_within (word ∷ []) n e = absurd (never_counted (bytes_eq word (codes "audit")) (bytes_eq word (codes "check")) (bytes_eq word (codes "step")) (bytes_eq word (codes "run")) n e)
 gen_within (word ∷ count ∷ []) n e = spelled_within MOST_PER_SESSION count n (counted_is (bytes_eq word (codes "gen")) (spelled_count MOST_PER_SESSION count) n e)
 gen_within (word ∷ count ∷ next ∷ more) n e = cc
+
+pub counted_of : (words : List (List ℕ)) (asked : Option Command) → asked ≡ command_of words → IsCounted asked
+counted_of words None e = tt
+counted_of words (Some (command.Read word)) e = tt
+counted_of words (Some (command.Gen n)) e = gen_within words n (sym e)
+counted_of words (Some command.Run) e = tt

@@ -1,5 +1,5 @@
 ghost use Rattle.std.specs.Prelude.{◌≡◌, [], ◌∷◌};
-ghost use Rattle.carol_tool.specs.Words.{IsCounted, texts, command_of, spelled_count};
+ghost use Rattle.carol_tool.specs.Words.{command_of, spelled_count, texts};
 
 use carol_generator::MOST_PER_SESSION;
 use carol_text::number;
@@ -29,8 +29,7 @@ pub enum Command {
 
 /// The command that the words are, if they are one.
 pub(crate) fn command_of(words: &[Vec<u8>]) -> Option<Command>
-    ensures command { result ≡ command_of (texts words.now) }
-    ensures counted { IsCounted result }
+    ensures { result ≡ command_of (texts words.now) }
 {
     match words {
         [word] => command_named(word),

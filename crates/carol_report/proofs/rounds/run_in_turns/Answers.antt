@@ -2,7 +2,7 @@ use Rattle.carol_report.proofs.Turning.{nearer, no_round, round_more, runs_out}
 use Rattle.carol_report.proofs.rounds.run_in_turns.Goals as goal
 
 pub loop-house-init : goal.loop-house-init
-loop-house-init c = no_round c.args.steps c.args.house.now c.reserve.new.house c.in_ok-reserve.ensures.rests c.in_ok-reserve.ensures.room
+loop-house-init c = no_round c.args.steps c.args.house.now c.reserve.new.self c.in_ok-reserve.ensures.rests c.in_ok-reserve.ensures.room
 
 pub loop-house-smaller : goal.loop-house-smaller
 loop-house-smaller c = nearer c.loop-house.house c.take_turns.new.house c.is_over.result c.loop-house-test.true c.is_over.ensures.over c.is_over.ensures.few c.in_ok-take_turns.ensures.turns
