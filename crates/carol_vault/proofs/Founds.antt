@@ -1,8 +1,7 @@
 -- What is found of a file that was read.
-use Rattle.std.proofs.Common.{◌≡◌, ◌≤◌, ◌<◌, ℕ, ◌+◌, min, Bool, true, false, List, [], ◌∷◌, ◌++◌, length, take, drop, refl, sym, ◌∙◌, ap, subst, inl, inr, arith, length-drop}
-use Rattle.std.specs.Prelude.{reverse}
+use Rattle.std.proofs.Common.{◌≡◌, ◌≤◌, ◌<◌, ℕ, ◌+◌, min, Bool, true, false, List, [], length, take, drop, refl, sym, ◌∙◌, ap, subst, inl, inr, arith, length-drop}
 use Rattle.std.proofs.lemmas.List.{nil_from_length, take_all}
-use Rattle.carol_program.specs.Rules.{Rules, rules_in}
+use Rattle.carol_program.specs.Rules.{rules_in}
 use Rattle.carol_program.specs.declared.scenes.Scene.{Scene}
 use Rattle.carol_reading.specs.Kept.{Kept}
 use Rattle.carol_event.specs.declared.event.Event.{Event}

@@ -1,13 +1,16 @@
 -- What a disk keeps while an event is put behind the others.
-use Rattle.std.proofs.Common.{◌≡◌, ◌⊎◌, ◌≤◌, ◌<◌, ℕ, ◌+◌, ◌-◌, List, [], ◌∷◌, ◌++◌, length, take, drop, refl, sym, ◌∙◌, ap, subst, inl, inr, ⊎_elim, arith, length-append, take-append-drop}
+use Rattle.std.proofs.Common.{◌≡◌, ◌≤◌, ℕ, ◌+◌, ◌-◌, Bool, true, false, List, [], ◌∷◌, ◌++◌, length, take, drop, sym, ◌∙◌, ap, subst, inl, ⊎_elim, arith, take-append-drop}
 use Rattle.std.specs.Prelude.{reverse, Result, Ok, Err, OnOk, OnErr}
 use Rattle.std.proofs.lemmas.List.{length-reverse, reverse-append, take_all, take_at}
 use Rattle.carol_event.specs.declared.event.Event.{Event}
-use Rattle.carol_house.specs.House.{House, Enters}
+use Rattle.carol_event.specs.Numbers.{Each, HasNumbers}
+use Rattle.carol_audit.specs.Fitting.{NumbersFit}
+use Rattle.carol_house.specs.House.{House, Enters, IsHistory, rules_of}
 use Rattle.carol_disk.specs.Disk.{Only}
 use Rattle.carol_disk.specs.Gates.{EndsBehind, GrowsBy}
 use Rattle.carol_vault_image.specs.Records.{Shows, body_of, records}
-use Rattle.carol_vault_image.proofs.Keeping.{Gated, gated_more, shows_more}
+use Rattle.carol_vault_image.proofs.Keeping.{Gated, each-reverse, gated_more, length-records, shows_more}
+use Rattle.carol_vault.specs.States.{IsVault}
 use Rattle.carol_vault.specs.Vaults.{Holds, IsKept, IsReady, events_of}
 
 pub length-events_of : (house : House) → length (events_of house) ≡ length house.history
@@ -131,3 +134,23 @@ module _ {D : Type 0} (seen kept : D → List ℕ) (may_leave : D → List ℕ �
         crash = left;
         kept_shows = subst (Shows (kept after)) (sym front) (subst (λ (l : List ℕ). EndsBehind l (kept after)) ready.front unkept);
       }
+
+  -- a vault whose disk is ready is one
+  pub vault_open : (disk : D) (house : House) (closed : Bool) (gate : ℕ) → closed ≡ false → IsReady seen kept may_leave disk house gate
+      → IsVault seen kept may_leave (record { disk = disk; house = house; closed = closed }) gate
+  vault_open disk house true gate is_open ready = absurd (clash is_open)
+    where
+      clash : true ≡ false → ⊥
+      clash e = cc
+  vault_open disk house false gate is_open ready =
+      let all : length house.history ≡ length house.history - 0 = omega arith in
+      record {
+        keeps = subst (λ (n : ℕ). IsKept kept may_leave n disk house) all (ready_keeps disk house gate ready);
+        ready = λ _. ready;
+      }
+
+-- the records of a history have room on a disk
+pub gate_small : NumbersFit → (old new : House) (gate : ℕ) → IsHistory new → new.history ≡ old.history → gate ≡ length (records (events_of old)) → gate ≤ 119537664
+gate_small fit old new gate is same gate_is =
+    let numbers : Each HasNumbers (events_of old) = subst (λ (l : List Event). Each HasNumbers (reverse l)) same (each-reverse new.history (fit (rules_of new) new.scene new.history is.may is.run is.few)) in
+    omega (arith, gate_is, length-records (events_of old) numbers, length-events_of old, ap length same, is.few)

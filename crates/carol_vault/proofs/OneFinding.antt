@@ -1,5 +1,5 @@
 -- A file is found to be one thing.
-use Rattle.std.proofs.Common.{◌≡◌, ◌⊎◌, ◌≤◌, ◌<◌, ℕ, suc, ◌+◌, ◌-◌, List, [], ◌∷◌, ◌++◌, length, take, drop, refl, sym, ◌∙◌, ap, subst, inl, inr, arith, append_assoc, length-append, length-take}
+use Rattle.std.proofs.Common.{◌≡◌, ◌≤◌, ◌<◌, ℕ, suc, ◌+◌, ◌-◌, List, [], ◌∷◌, ◌++◌, length, take, drop, sym, ◌∙◌, ap, subst, inl, inr, arith, append_assoc, length-append, length-take}
 use Rattle.std.specs.Prelude.{reverse}
 use Rattle.std.proofs.lemmas.List.{take-append-drop, length-reverse, reverse-reverse}
 use Rattle.carol_program.specs.Rules.{Rules}
@@ -7,18 +7,15 @@ use Rattle.carol_program.specs.declared.scenes.Scene.{Scene}
 use Rattle.carol_event.specs.declared.event.Event.{Event}
 use Rattle.carol_event.specs.Numbers.{Each, HasNumbers}
 use Rattle.carol_history.specs.declared.history.TheConstants.{MOST_EVENTS}
-
 use Rattle.carol_history.specs.Runs.{Run}
-use Rattle.carol_simulation.specs.Upheld.{MayRun}
 use Rattle.carol_audit.specs.Fitting.{NumbersFit}
 use Rattle.carol_audit.specs.Rulings.{IsFirstFalse}
 use Rattle.carol_audit.proofs.OneFinding.{one_event}
 use Rattle.carol_audit.proofs.Single.{none_false}
-use Rattle.carol_disk.specs.Gates.{IsShut}
-use Rattle.carol_vault_image.specs.Records.{IsRead, Shows, records}
+use Rattle.carol_vault_image.specs.Records.{IsRead, records}
 use Rattle.carol_vault_image.proofs.Keeping.{each-reverse, shown_reading}
 use Rattle.carol_vault_image.proofs.Readings.{one_reading}
-use Rattle.carol_vault.specs.Finding.{Finding, Sound, Damaged, Illegal, Finds, IsClosed, IsFirstIllegal, IsOpen}
+use Rattle.carol_vault.specs.Finding.{Sound, Damaged, Illegal, IsClosed, IsFirstIllegal, IsOpen}
 use Rattle.carol_vault.specs.Laws.{FindingsAreSingle, ShownIsSound}
 
 -- no end is both
@@ -94,18 +91,18 @@ findings_are_single p scene file (Sound events) (Sound others) one other = ap So
 findings_are_single p scene file (Sound events) (Damaged at) one other = absurd (same_end file events other.events one.end other.end one.read other.read one.closed other.long other.broken)
 findings_are_single p scene file (Sound events) (Illegal number) one other =
     absurd (sound_is_legal p scene events number one.run one.few
-      (subst (λ (l : List Event). IsFirstIllegal p scene l number) (sym (one_reading file events other.events one.end other.end one.read other.read).0) other.first))
+    (subst (λ (l : List Event). IsFirstIllegal p scene l number) (sym (one_reading file events other.events one.end other.end one.read other.read).0) other.first))
 findings_are_single p scene file (Damaged at) (Sound others) one other = absurd (same_end file others one.events other.end one.end other.read one.read other.closed one.long one.broken)
 findings_are_single p scene file (Damaged at) (Damaged place) one other =
     ap Damaged (one.at_is ∙ ap (λ (l : List Event). length (records l)) (one_reading file one.events other.events one.end other.end one.read other.read).0 ∙ sym other.at_is)
 findings_are_single p scene file (Damaged at) (Illegal number) one other = absurd (same_end file other.events one.events other.end one.end other.read one.read other.closed one.long one.broken)
 findings_are_single p scene file (Illegal number) (Sound others) one other =
     absurd (sound_is_legal p scene others number other.run other.few
-      (subst (λ (l : List Event). IsFirstIllegal p scene l number) (one_reading file one.events others one.end other.end one.read other.read).0 one.first))
+    (subst (λ (l : List Event). IsFirstIllegal p scene l number) (one_reading file one.events others one.end other.end one.read other.read).0 one.first))
 findings_are_single p scene file (Illegal number) (Damaged at) one other = absurd (same_end file one.events other.events one.end other.end one.read other.read one.closed other.long other.broken)
 findings_are_single p scene file (Illegal number) (Illegal second) one other =
     ap Illegal (one_illegal p scene other.events number second
-      (subst (λ (l : List Event). IsFirstIllegal p scene l number) (one_reading file one.events other.events one.end other.end one.read other.read).0 one.first) other.first)
+    (subst (λ (l : List Event). IsFirstIllegal p scene l number) (one_reading file one.events other.events one.end other.end one.read other.read).0 one.first) other.first)
 
 -- what a file shows is found
 pub shown_is_sound : NumbersFit → ShownIsSound

@@ -1,5 +1,5 @@
 -- How a vault keeps itself.
-use Rattle.std.specs.Prelude.{◌≡◌, ℕ, Bool, false, List}
+use Rattle.std.specs.Prelude.{◌≡◌, ℕ, false, List}
 use Rattle.carol_vault.specs.Vaults.{IsKept, IsReady, Vaulted, acknowledged}
 
 -- the disk keeps what is acknowledged, and is ready as long as no call answered Fault

@@ -35,8 +35,9 @@ pub fn find(
     if !is_closed(bytes, image.end) {
         return Ok(Found::Damaged(image.end));
     }
-    let few = image.events.len().min(MOST_EVENTS);
-    let (first, more) = image.events.split_at(few);
+    let events = image.events.as_slice();
+    let few = events.len().min(MOST_EVENTS);
+    let (first, more) = events.split_at(few);
     let ruling = audit(alloc, accepted, scene, first)?;
     Ok(found_of(ruling, image.end, more.is_empty()))
 }

@@ -31,7 +31,7 @@ impl<D: Disk> Vault<D> {
         ensures ok { IfOk result (λ moved. Advances self.old session moved self.new) }
         ensures err { IfErr result (λ error. FailsToKeep
             (λ event. Forced (rules_of self.old.house) self.old.house.scene session event
-                self.old.house.history)
+            self.old.house.history)
             self.old error self.new) }
         ensures any_moment { LeavesOnly D.moment D.left_since self.old.disk self.new.disk
             (Holds (acknowledged self.old) self.new.house) }
@@ -131,8 +131,9 @@ impl<D: Disk> Vault<D> {
         event_numbers();
         let body = prepare(self.alloc, &mut self.house, event)?;
         let _history = self.house.history();
-        let size = body.len() as u64;
-        match commit(&mut self.disk, &mut self.house, self.gate, event, body.as_slice()) {
+        let part = body.as_slice();
+        let size = part.len() as u64;
+        match commit(&mut self.disk, &mut self.house, self.gate, event, part) {
             Ok(()) => {
                 self.gate += size;
                 Ok(())

@@ -91,7 +91,7 @@ fn begin<D: Disk>(
     ensures err { IfErr result (IsCause (rules_in accepted.program) scene (D.seen disk.old)) }
     ensures any_moment { LeavesOnly D.moment D.left_since disk.old disk.new
         (λ c. D.may_leave disk.old c
-            ⊎ StandsFor (rules_in accepted.program) scene (D.seen disk.old) c) }
+        ⊎ StandsFor (rules_in accepted.program) scene (D.seen disk.old) c) }
     ensures synced { D.moment disk.old < D.moment disk.new → (c : List ℕ) →
         D.left_since disk.new (D.moment disk.old + 1) c →
         StandsFor (rules_in accepted.program) scene (D.seen disk.old) c }
@@ -105,10 +105,10 @@ fn begin<D: Disk>(
     ensures counted { D.faults disk.old ≤ D.faults disk.new }
     ensures limit { D.limit disk.new ≡ D.limit disk.old }
 {
-    if disk.sync().is_err() {
-        return Err(OpenCause::Fault);
+    match disk.sync() {
+        Ok(()) => recover(alloc, disk, accepted, scene),
+        Err(Failed) => Err(OpenCause::Fault),
     }
-    recover(alloc, disk, accepted, scene)
 }
 
 // Reads the file, of which a crash leaves what a read gives, and ends it behind its records.

@@ -1,4 +1,4 @@
-use Rattle.std.proofs.Common.{◌≡◌, ◌+◌, ◌∷◌, [], ◌++◌, List, ℕ, length, take, sym, ◌∙◌, ap, subst}
+use Rattle.std.proofs.Common.{List, ℕ, length, take}
 use Rattle.carol_disk.specs.Gates.{GrowsBy}
 use Rattle.carol_disk.proofs.Moments.{weaker}
 use Rattle.carol_vault.specs.Vaults.{Holds}

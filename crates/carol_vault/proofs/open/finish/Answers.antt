@@ -1,7 +1,4 @@
-use Rattle.std.proofs.Common.{◌≡◌, ◌++◌, List, ℕ, length, take, sym, ◌∙◌, ap, subst, arith}
-use Rattle.carol_disk.specs.Gates.{EndsBehind}
-use Rattle.carol_disk.proofs.Moments.{weaker}
-use Rattle.carol_vault_image.specs.Records.{Shows, records}
+use Rattle.std.proofs.Common.{◌∙◌, arith}
 use Rattle.carol_vault_image.proofs.Readings.{short_none}
 use Rattle.carol_vault.specs.Vaults.{events_of}
 use Rattle.carol_vault.proofs.Openings.{front_of, kept_either}
