@@ -40,7 +40,8 @@ impl<D: Disk> Vault<D> {
         // have been left before it; once the first sync has succeeded, it stands for it.
         ensures any_moment { let after = disk_of result in
             LeavesOnly D.moment D.left_since disk after
-            (λ c. D.may_leave disk c ⊎ StandsFor (rules_in accepted.program) scene (D.seen disk) c) }
+            (λ c. D.may_leave disk c
+                ⊎ StandsFor (rules_in accepted.program) scene (D.seen disk) c) }
         ensures synced { let after = disk_of result in
             D.moment disk < D.moment after → (c : List ℕ) →
             D.left_since after (D.moment disk + 1) c →
@@ -101,7 +102,8 @@ fn begin<D: Disk>(
         (D.moment disk.new ≡ D.moment disk.old + calls_to_open (D.seen disk.old)) }
     ensures fewer { OnErr result
         (D.moment disk.new < D.moment disk.old + calls_to_open (D.seen disk.old)) }
-    ensures fault { result ≡ Err OpenCause.Fault → Rose (D.faults disk.old) (D.faults disk.new) }
+    ensures fault { result ≡ Err OpenCause.Fault →
+        Rose (D.faults disk.old) (D.faults disk.new) }
     ensures counted { D.faults disk.old ≤ D.faults disk.new }
     ensures limit { D.limit disk.new ≡ D.limit disk.old }
 {
@@ -132,7 +134,8 @@ fn recover<D: Disk>(
         (D.moment disk.new + 1 ≡ D.moment disk.old + calls_to_open (D.seen disk.old)) }
     ensures fewer { OnErr result
         (D.moment disk.new + 1 < D.moment disk.old + calls_to_open (D.seen disk.old)) }
-    ensures fault { result ≡ Err OpenCause.Fault → Rose (D.faults disk.old) (D.faults disk.new) }
+    ensures fault { result ≡ Err OpenCause.Fault →
+        Rose (D.faults disk.old) (D.faults disk.new) }
     ensures counted { D.faults disk.old ≤ D.faults disk.new }
     ensures limit { D.limit disk.new ≡ D.limit disk.old }
 {
