@@ -15,6 +15,3 @@ pub use error::LineError;
 pub use event::{Cause, Event};
 pub use parse::parse_event;
 pub use print::{print_event, push_cause, push_values};
-
-#[cfg(test)]
-mod tests;

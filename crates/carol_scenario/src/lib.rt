@@ -16,6 +16,3 @@ mod sessions;
 
 pub use error::{SceneError, SceneLimit};
 pub use scenes::scene;
-
-#[cfg(test)]
-mod tests;

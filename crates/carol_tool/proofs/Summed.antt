@@ -13,7 +13,7 @@ use Rattle.carol_parse.specs.declared.error.TextError.{TextError}
 use Rattle.carol_program.specs.declared.scenes.Scene.{Scene}
 use Rattle.carol_program.specs.Rules.{Rules, rules_in}
 use Rattle.carol_reading.specs.Kept.{Kept}
-use Rattle.carol_scenario.specs.Generated.{generated_text}
+use Rattle.carol_generator.specs.Generated.{generated_text}
 use Rattle.carol_syntax.specs.Files.{FileTree}
 use Rattle.carol_grammar.specs.Outcome.{Outcome, Read, Means}
 use Rattle.carol_tool.specs.Answer.{IsReply}

@@ -6,7 +6,7 @@ use Rattle.std.proofs.lemmas.Bool.Decides.{nat_tests}
 use Rattle.std.proofs.lemmas.List.{append-nil}
 use lib.Pointwise.{bytes_decides}
 use Rattle.carol_text.specs.Number.{starts_with_digit}
-use Rattle.carol_scenario.specs.declared.generator.TheConstants.{MOST_PER_SESSION}
+use Rattle.carol_generator.specs.declared.generator.TheConstants.{MOST_PER_SESSION}
 use Rattle.carol_tool.specs.Words.{command_of, spelled_count}
 use Rattle.carol_tool.specs.declared.command.Command.TheVariants as command
 

@@ -9,7 +9,7 @@ use Rattle.carol_report.specs.Turns.{Turns}
 use Rattle.carol_program.specs.declared.scenes.Scene.{Scene}
 use Rattle.carol_program.specs.Rules.{rules_in}
 use Rattle.carol_reading.specs.Kept.{Kept}
-use Rattle.carol_scenario.specs.Generated.{generated_text}
+use Rattle.carol_generator.specs.Generated.{generated_text}
 use Rattle.carol_simulation.specs.Upheld.{Upheld}
 use Rattle.carol_syntax.specs.declared.scenes.SceneDecl.{SceneDecl}
 use Rattle.carol_syntax.specs.Files.{FileTree, ProgramTree}

@@ -1,7 +1,7 @@
 -- The words of a command line, and the command that they are.
 use Rattle.std.specs.Prelude.{List, ℕ, zero, suc, [], ◌∷◌, map, codes, decimal, bytes_eq, if◌then◌else◌, Option, Some, None, option_map, Vec}
 use Rattle.std.specs.declared.alloc.Global.{Global}
-use Rattle.carol_scenario.specs.declared.generator.TheConstants.{MOST_PER_SESSION}
+use Rattle.carol_generator.specs.declared.generator.TheConstants.{MOST_PER_SESSION}
 use Rattle.carol_tool.specs.declared.command.Command.{Command}
 use Rattle.carol_tool.specs.declared.command.Command.TheVariants as command
 

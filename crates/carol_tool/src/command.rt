@@ -2,7 +2,7 @@ ghost use Rattle.std.specs.Prelude.{◌≡◌, Some, [], ◌∷◌};
 ghost use Rattle.carol_tool.specs.Texts.{command_word};
 ghost use Rattle.carol_tool.specs.Words.{texts, command_of, spelled_count};
 
-use carol_scenario::MOST_PER_SESSION;
+use carol_generator::MOST_PER_SESSION;
 use carol_text::number;
 use std::fmt;
 

@@ -18,7 +18,7 @@ use carol_parse::parse;
 use carol_program::Scene;
 use carol_reading::Accepted;
 use carol_report::{run_in_turns, summary, turns_laws};
-use carol_scenario::{MOST_PER_SESSION, generate};
+use carol_generator::{MOST_PER_SESSION, generate};
 use carol_simulation::bound_laws;
 use carol_syntax::{File, SceneDecl};
 use std::alloc::{AllocError, Global};

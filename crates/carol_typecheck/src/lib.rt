@@ -13,8 +13,6 @@ mod batch;
 mod decider;
 mod judge;
 mod judging;
-#[cfg(test)]
-mod tests;
 mod verdict;
 
 ghost use Rattle.std.specs.Prelude.{[], ◌∷◌, IfOk, length};

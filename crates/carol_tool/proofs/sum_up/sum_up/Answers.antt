@@ -1,5 +1,5 @@
 use Rattle.std.proofs.Common.{◌≡◌, rules}
-use Rattle.carol_scenario.specs.Generated.{generated_text}
+use Rattle.carol_generator.specs.Generated.{generated_text}
 use Rattle.carol_syntax.specs.Files.{file_tree}
 use Rattle.carol_tool.proofs.Summed.{summed_error, summed_file}
 use Rattle.carol_tool.proofs.sum_up.sum_up.Goals as goal
