@@ -1,7 +1,7 @@
 use Rattle.std.proofs.Common.{[], ◌∷◌}
 use Rattle.carol_formula.specs.Tree.{claim_of}
 use Rattle.carol_typecheck.proofs.Settling.{judged_next, judged_stays, not_good}
-use Rattle.carol_typecheck.proofs.judging.JudgingCollector.take.Goals as goal
+use Rattle.carol_typecheck.proofs.direct.JudgingCollector.take.Goals as goal
 
 pub returns-then-not-is_good : goal.returns-then-not-is_good
 returns-then-not-is_good c =
