@@ -1,3 +1,4 @@
 pub mod Meant
 pub mod Spots
 pub mod Guard
+pub mod Accepted

@@ -12,6 +12,3 @@ mod laws;
 
 pub use generator::{MOST_PER_SESSION, generate};
 pub use laws::{generated_is_faultless, generated_is_read};
-
-#[cfg(test)]
-mod tests;

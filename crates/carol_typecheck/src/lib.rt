@@ -13,8 +13,6 @@ mod batch;
 mod decider;
 mod direct;
 mod judge;
-mod direct;
-mod judge;
 mod verdict;
 
 ghost use Rattle.std.specs.Prelude.{[], ◌∷◌, IfOk, length};
