@@ -8,4 +8,5 @@ returns-then-not-is_good c =
     judged_stays c.args.self.now.found ((c.args.place, claim_of c.args.formula) ∷ []) (not_good c.is_good.result c.args.self.now.found c.is_good.ensures c.if-not-is_good.true)
 
 pub returns : goal.returns
-returns c = ?
+returns c =
+    judged_next c.args.self.now.found c.in_ok-self.field-0 (record { place = c.args.place; formula = c.args.formula }) (c.is_good.ensures.0 c.if-not-is_good.false) c.in_ok-self.ensures
