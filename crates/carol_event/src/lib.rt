@@ -10,6 +10,7 @@ mod items;
 mod kind;
 mod parse;
 mod print;
+mod push;
 
 pub use error::LineError;
 pub use event::{Cause, Event};

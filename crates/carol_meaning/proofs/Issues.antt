@@ -17,7 +17,7 @@ use Rattle.carol_meaning.specs.declared.fault.NameKind.TheVariants.{Twice, Wrong
 use Rattle.carol_meaning.specs.declared.named.Named.{Named}
 use Rattle.carol_meaning.specs.declared.named.Named.TheVariants.{Cell}
 use Rattle.carol_meaning.specs.Cells.{kinds_in}
-use Rattle.carol_meaning.specs.Terms.{Found}
+use Rattle.carol_meaning.specs.Terms.{Look}
 use Rattle.carol_meaning.specs.Stores.{words}
 use Rattle.carol_meaning.specs.Bodies.{Around, Point, in_body, path_fault, suits, change_faults, amount_faults, cell_number, has_number, again_faults, seen_with, target, issue_faults, amount_of, parts_of}
 use Rattle.carol_meaning.proofs.Lists.{no_part, passed-test, failed-test}
@@ -32,20 +32,20 @@ done-at [] number kind t h d = cc
 done-at (k ∷ kinds) zero kind t h d = subst (λ x. IsDoneTo x t) (sym (same_Some k kind h)) d
 done-at (k ∷ kinds) (suc number) kind t h d = done-at kinds number kind t h d
 
-done-to : (look : ValueDecl → Found) (kind : CellKind) (change : Change) → suits kind change ≡ true → IsDoneTo kind (amount_of look change)
+done-to : (look : Look) (kind : CellKind) (change : Change) → suits kind change ≡ true → IsDoneTo kind (amount_of look change)
 done-to look Counter change h = tt
 done-to look Peak change h = tt
 done-to look Flag Set h = refl
 done-to look Flag _ h = cc
 
-amount-over : (ranges : List (ℕ × ℕ)) → AreNarrow ranges → (look : ValueDecl → Found) → LooksIn ranges look → (change : Change) → amount_faults look change ≡ [] → IsTermOver ranges (amount_of look change)
+amount-over : (ranges : List (ℕ × ℕ)) → AreNarrow ranges → (look : Look) → LooksIn ranges look → (change : Change) → amount_faults look change ≡ [] → IsTermOver ranges (amount_of look change)
 amount-over ranges narrow look looks (Add t) h = meaning-over ranges narrow look looks t h
 amount-over ranges narrow look looks (Take t) h = negated-over ranges narrow look looks t h
 amount-over ranges narrow look looks (Raise t) h = meaning-over ranges narrow look looks t h
 amount-over ranges narrow look looks Set h = record { variables = tt; small = (tt, omega arith); short = omega arith }
 
 -- what is changed is a cell, in a way that suits it
-changed-done : (kinds : List CellKind) (look : ValueDecl → Found) (path : PathDecl) (change : Change) (found : Named) → IsNamedIn kinds found → change_faults path change found ≡ [] → IsDoneAt kinds (cell_number found) (amount_of look change)
+changed-done : (kinds : List CellKind) (look : Look) (path : PathDecl) (change : Change) (found : Named) → IsNamedIn kinds found → change_faults path change found ≡ [] → IsDoneAt kinds (cell_number found) (amount_of look change)
 changed-done kinds look path change (Cell number kind) h none =
     done-at kinds number kind (amount_of look change) h (done-to look kind change (passed-test (suits kind change) (path_fault WrongKind path) [] none))
 changed-done kinds look path change _ h none = cc

@@ -25,7 +25,7 @@ use Rattle.carol_meaning.specs.Declarations.{place_of}
 use Rattle.carol_meaning.specs.declared.named.Named.{Named}
 use Rattle.carol_meaning.specs.declared.named.Named.TheVariants.{Cell, Members, Missing, Misused}
 use Rattle.carol_meaning.specs.Cells.{named}
-use Rattle.carol_meaning.specs.Terms.{Found, term_worth, term_faults, term_meaning, formula_meaning, formula_faults, is_small}
+use Rattle.carol_meaning.specs.Terms.{Look, term_worth, term_faults, term_meaning, formula_meaning, formula_faults, is_small}
 use Rattle.carol_meaning.specs.Stores.{words, first_word, path_span}
 use Rattle.carol_meaning.specs.declared.meaning.Meaning.TheVariants.{Queried, Bound}
 use Rattle.carol_meaning.specs.Scopes.{Scope, declared, in_scope}
@@ -42,8 +42,8 @@ pub record Point : Type 0 where
   pub number : ℕ
 
 -- what a value is at a place of a body
-abbrev pub in_body : Around → Point → ValueDecl → Found
-in_body around at v = in_scope around.cells false at.scope v
+abbrev pub in_body : Around → Point → Look
+in_body around at = in_scope around.cells false at.scope
 
 -- ---- issues
 
@@ -72,7 +72,7 @@ change_faults path change (Members first count) = path_fault WrongKind path ∷ 
 change_faults path change Missing = path_fault Unknown path ∷ []
 change_faults path change Misused = path_fault WrongKind path ∷ []
 
-abbrev pub amount_faults : (ValueDecl → Found) → Change → List Fault
+abbrev pub amount_faults : Look → Change → List Fault
 amount_faults look (Add t) = term_faults look t
 amount_faults look (Take t) = term_faults look t
 amount_faults look (Raise t) = term_faults look t
@@ -111,7 +111,7 @@ issue_faults around at seen (a ∷ more) =
     atom_faults around at seen a (target around a) ++ issue_faults around at (seen_with seen (target around a)) more
 
 -- what is added to a counter, a peak's target, and 1 for a flag
-abbrev pub amount_of : (ValueDecl → Found) → Change → Linear
+abbrev pub amount_of : Look → Change → Linear
 amount_of look (Add t) = term_meaning look t
 amount_of look (Take t) = scaled (neg_ℤ (pos 1)) (term_meaning look t)
 amount_of look (Raise t) = term_meaning look t
