@@ -8,7 +8,9 @@ use Rattle.carol_program.specs.declared.places.Place.{Place}
 use Rattle.carol_program.specs.Rules.{Rules, OpRules}
 use Rattle.carol_program.specs.WellFormed.{AreRules, IsOpOver, IsWellFormed}
 use Rattle.carol_reading.specs.Good.{IsAccepted, IsGood}
+use Rattle.carol_reading.specs.Rounds.{MeetsInvariant}
 use Rattle.carol_obligation.specs.Breaches.{IsBreach}
+use Rattle.carol_obligation.specs.Formed.{obligation_at}
 use Rattle.carol_obligation.specs.GoodLaw.{HasNoBreach, NoBreachIsGood}
 use Rattle.carol_obligation.specs.Places.{sites_of}
 use Rattle.carol_obligation.specs.Sites.{Site}
@@ -17,9 +19,7 @@ use Rattle.carol_obligation.specs.TruthLaw.{IsExact, FormulasAreExact}
 use Rattle.carol_typecheck.specs.First.{First}
 use Rattle.carol_typecheck.specs.Readings.{IsSafe, IsBroken, IsDoubtful, IsUnclear, IsVerdictFor}
 use Rattle.carol_typecheck.specs.declared.verdict.Verdict.TheVariants as verdict
-use Rattle.carol_accept.specs.Refusals.{IsRefusedFor, StartsWell}
-use Rattle.carol_accept.specs.declared.refused.Refused.{Refused}
-use Rattle.carol_accept.specs.declared.refused.Refused.TheVariants.{InitialFails, NotReflexive, Fails, Undecided, NoMemory}
+use Rattle.carol_typecheck.specs.declared.verdict.Verdict.{Verdict}
 use Rattle.carol_meaning.specs.Laws.{FaultlessIsWellFormed}
 use Rattle.carol_meaning.specs.Programs.{program_faults, rules_of, names_of}
 use Rattle.carol_meaning.specs.Sizes.{IsShortProgram}
@@ -57,7 +57,7 @@ pub record IsClear (p : Rules) (op : OpRules) (site : Site) : Type 0 where
   pub exact : IsExact p op site
 
 no_breach : (p : Rules) (op : OpRules) (site : Site) → IsClear p op site → HasNoBreach p op site
-no_breach p op site c f b = c.settled.holds f (meant _ false f ((c.exact f).1 b))
+no_breach p op site c f b = c.settled.holds f (meant (obligation_at p op site) false f ((c.exact f).1 b))
 
 abbrev IsClearSpot : Rules → Spot → Type 0
 IsClearSpot p s = IsClear p s.op s.site
@@ -83,15 +83,18 @@ bank_short = record {
       gives = (lit≤ tt, ((lit≤ tt, lit≤ tt), (lit≤ tt, lit≤ tt)));
       body = record { parts = ((tt, tt), (lit≤ tt, (lit≤ tt, lit≤ tt)), (((lit≤ tt, tt), tt), lit≤ tt), (tt, lit≤ tt)); shallow = lit≤ tt; short = lit≤ tt };
     },
-    (record {
-      params = ((lit≤ tt, ((lit≤ tt, lit≤ tt), (lit≤ tt, lit≤ tt))), tt);
-      gives = (lit≤ tt, (lit≤ tt, lit≤ tt));
-      body = record { parts = (((lit≤ tt, tt), tt), lit≤ tt); shallow = lit≤ tt; short = lit≤ tt };
-    }, tt),
+    (
+      record {
+        params = ((lit≤ tt, ((lit≤ tt, lit≤ tt), (lit≤ tt, lit≤ tt))), tt);
+        gives = (lit≤ tt, (lit≤ tt, lit≤ tt));
+        body = record { parts = (((lit≤ tt, tt), tt), lit≤ tt); shallow = lit≤ tt; short = lit≤ tt };
+      },
+      tt,
+    ),
   );
 }
 
-starts : StartsWell p
+starts : MeetsInvariant p p.initial
 starts = refl
 
 module _ (well : FaultlessIsWellFormed) (good : NoBreachIsGood) (exact : FormulasAreExact) where
@@ -123,14 +126,12 @@ module _ (well : FaultlessIsWellFormed) (good : NoBreachIsGood) (exact : Formula
 
   never_doubtful : (place : Place) (why : Why) → First (IsSafe p) (IsDoubtful p place why) (spots_from p 0 p.ops) → ⊥
   never_doubtful place why h =
-      none_first (IsSafe p) (IsDoubtful p place why) (IsClearSpot p) (λ s c d. d.1.stuck.beyond c.settled.differences c.settled.few) (spots_from p 0 p.ops) (clear_spots p 0 p.ops all_clear) h
+      none_first (IsSafe p) (IsDoubtful p place why) (IsClearSpot p) (λ s c d. c.settled.closed why d.1.stuck) (spots_from p 0 p.ops) (clear_spots p 0 p.ops all_clear) h
 
-  only : (refused : Refused) → IsRefusedFor p refused → refused ≡ NoMemory
-  only (InitialFails program) h = absurd (h starts)
-  only (NotReflexive program guard at) h = absurd (not_reflexive guard (number_at at) h.1)
-  only (Fails program place at) h = absurd (never_fails place (number_at at) h.2)
-  only (Undecided program place why) h = absurd (elim h.1 [ inl o ↦ never_open place why o | inr v ↦ never_doubtful place why v.1 ])
-  only NoMemory h = refl
+  good_verdict : (v : Verdict) → IsVerdictFor p v → v ≡ verdict.Good
+  good_verdict verdict.Good h = refl
+  good_verdict (verdict.Fails place at) h = absurd (never_fails place (number_at at) h)
+  good_verdict (verdict.Undecided place why) h = absurd (never_doubtful place why h)
 
   pub bank_accepted : BankIsAccepted
-  bank_accepted = record { accepted = accepted; only = only }
+  bank_accepted = record { accepted = accepted; guards = not_reflexive; accords = never_open; verdict = good_verdict }

@@ -1,5 +1,5 @@
 -- The bank's guard is true of two equal stores, and nothing that is asked of it stays open.
-use Rattle.std.proofs.Common.{◌≡◌, ℕ, zero, suc, ◌+◌, ◌≤◌, Bool, true, false, List, [], ◌∷◌, ◌++◌, length, length-append, refl, sym, ap, subst, lit≤, arith}
+use Rattle.std.proofs.Common.{◌≡◌, ℕ, zero, suc, ◌+◌, ◌≤◌, Bool, true, false, inl, inr, List, [], ◌∷◌, ◌++◌, length, length-append, refl, sym, ap, subst, lit≤, arith}
 use Rattle.std.specs.Prelude.{ℤ, pos, negsuc, ◌+ℤ◌, ◌*ℤ◌, ◌≤ℤ◌, Some, None, slice_get}
 use Rattle.std.proofs.lemmas.Int.{ints}
 use Rattle.carol_store.specs.declared.shape.CellKind.{CellKind}
@@ -41,9 +41,8 @@ is_low number guard c = only low guard c.earlier c.later c.order
 
 -- Two equal stores.
 
-no_difference : (z : ℤ) → ((pos 1 *ℤ z) +ℤ ((negsuc 0 *ℤ z) +ℤ pos 0)) +ℤ pos 0 ≤ℤ pos 0
+no_difference : (z : ℤ) → (((pos 1 *ℤ z) +ℤ ((negsuc 0 *ℤ z) +ℤ pos 0)) +ℤ pos 0) ≤ℤ pos 0
 no_difference z = omega (arith, ints)
-
 
 low_same : (store : List CellValue) → truth low (number_in_two store store) ≡ true
 low_same store = is_at_most_zero_from _ (no_difference (number_in store 0))
@@ -61,7 +60,7 @@ not_reflexive number f h =
 -- What stays open.
 
 equal_closed : (why : Why) → IsStuck (without_not true (equal_claim (rules_of bank).shape low)) why → ⊥
-equal_closed why s = s.beyond ? (lit≤ tt)
+equal_closed why s = s.beyond (tt, tt) (lit≤ tt)
 
 -- a step of the one cell, which is a counter
 step_closed : (cell : ℕ) (up : Bool) (kind : CellKind) (why : Why) → slice_get (rules_of bank).shape cell ≡ Some kind → IsStuck (without_not true (step_claim (rules_of bank).shape low kind (step_of cell up))) why → ⊥
@@ -70,8 +69,8 @@ step_closed zero true Peak why e s = absurd cc
 step_closed zero true Flag why e s = absurd cc
 step_closed zero false Peak why e s = absurd cc
 step_closed zero false Flag why e s = absurd cc
-step_closed zero true Counter why e s = s.beyond ? (lit≤ tt)
-step_closed zero false Counter why e s = s.beyond ? (lit≤ tt)
+step_closed zero true Counter why e s = s.beyond ((tt, tt), (inl (refl, refl), inr (refl, refl))) (lit≤ tt)
+step_closed zero false Counter why e s = s.beyond ((tt, tt), (inl (refl, refl), inr (refl, refl))) (lit≤ tt)
 
 pub never_open : (place : Place) (why : Why) → IsOpenAt (rules_of bank) place why → ⊥
 never_open (Reflexive number) why h =

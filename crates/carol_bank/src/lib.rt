@@ -1,11 +1,13 @@
-//! The bank of the large inputs is accepted: the law that a program whose rules are those of the
-//! bank is refused for want of memory alone.
+//! The bank of the large inputs is accepted: the law that leaves no reason to refuse it but want of
+//! memory. `carol_generator` has the program, and its law that nothing is wrong with its names.
 //!
-//! `proofs/Meant` says what the truth of a formula comes to, `Spots` that nothing that is asked of
-//! the bank's operations can fail, and that each formula is one of differences, `Guard` the same of
-//! its guard, and `Accepted` has the law.
+//! `proofs/Meant` says what the truth of a formula comes to. `Spots` has the formula of each place of
+//! the bank's operations: it is false of nothing, and its decision doesn't stay open. All but one
+//! are formulas of differences, which are always decided; the one that adds two variables up is in
+//! `Sums`, the rows that elimination makes of it in `Rows`, and that it is decided in `Closed`.
+//! `Guard` has the guard, and `Accepted` the law.
 //!
-//! Layer: checker. It has no code; a crate above calls it for its clause.
+//! Layer: checker. There is no code here that does anything; it is called for its clause.
 #![tactic(auto)]
 
 ghost use Rattle.carol_bank.specs.Law.{BankIsAccepted};
@@ -13,7 +15,7 @@ ghost use Rattle.carol_bank.specs.Law.{BankIsAccepted};
 use carol_meaning::resolve_laws;
 use carol_obligation::{good_laws, truth_laws};
 
-/// The bank is accepted, and no refusal of it is right but want of memory.
+/// The bank is accepted, and each verdict on its guard and its operations is that they are good.
 pub fn bank_is_accepted()
     ensures { BankIsAccepted }
 {
