@@ -1,15 +1,14 @@
 -- The bank is accepted.
-use Rattle.std.proofs.Common.{◌≡◌, ℕ, ◌+◌, ◌≤◌, true, false, ◌⊎◌, inl, inr, List, [], ◌∷◌, ◌++◌, length, map, refl, subst, lit≤}
+use Rattle.std.proofs.Common.{◌≡◌, ℕ, ◌+◌, false, inl, inr, List, [], ◌∷◌, ◌++◌, length, map, refl, lit≤}
 use Rattle.std.specs.Prelude.{ℤ}
 use Rattle.std.specs.List.{AllByRecursion}
 use Rattle.carol_formula.specs.Numbers.{number_at}
 use Rattle.carol_decide.specs.declared.answer.Why.{Why}
 use Rattle.carol_program.specs.declared.places.Place.{Place}
 use Rattle.carol_program.specs.Rules.{Rules, OpRules}
-use Rattle.carol_program.specs.WellFormed.{AreRules, IsOpOver, IsWellFormed}
+use Rattle.carol_program.specs.WellFormed.{AreRules, IsOpOver}
 use Rattle.carol_reading.specs.Good.{IsAccepted, IsGood}
 use Rattle.carol_reading.specs.Rounds.{MeetsInvariant}
-use Rattle.carol_obligation.specs.Breaches.{IsBreach}
 use Rattle.carol_obligation.specs.Formed.{obligation_at}
 use Rattle.carol_obligation.specs.GoodLaw.{HasNoBreach, NoBreachIsGood}
 use Rattle.carol_obligation.specs.Places.{sites_of}
@@ -17,11 +16,11 @@ use Rattle.carol_obligation.specs.Sites.{Site}
 use Rattle.carol_obligation.specs.Spots.{Spot, spot_at, spots_from}
 use Rattle.carol_obligation.specs.TruthLaw.{IsExact, FormulasAreExact}
 use Rattle.carol_typecheck.specs.First.{First}
-use Rattle.carol_typecheck.specs.Readings.{IsSafe, IsBroken, IsDoubtful, IsUnclear, IsVerdictFor}
+use Rattle.carol_typecheck.specs.Readings.{IsSafe, IsBroken, IsDoubtful, IsVerdictFor}
 use Rattle.carol_typecheck.specs.declared.verdict.Verdict.TheVariants as verdict
 use Rattle.carol_typecheck.specs.declared.verdict.Verdict.{Verdict}
 use Rattle.carol_meaning.specs.Laws.{FaultlessIsWellFormed}
-use Rattle.carol_meaning.specs.Programs.{program_faults, rules_of, names_of}
+use Rattle.carol_meaning.specs.Programs.{rules_of}
 use Rattle.carol_meaning.specs.Sizes.{IsShortProgram}
 use Rattle.carol_generator.specs.Generated.{bank}
 use Rattle.carol_generator.proofs.Formed.{bank_formed}

@@ -1,10 +1,9 @@
 -- The decision of the deposit's invariant ends for no reason but an answer.
-use Rattle.std.proofs.Common.{◌≡◌, ℕ, List, [], ◌∷◌, ◌++◌, ap, subst}
+use Rattle.std.proofs.Common.{◌≡◌, List, [], ◌++◌, ap, subst}
 use Rattle.carol_formula.specs.Linear.{Linear}
 use Rattle.carol_formula.specs.Numbers.{number_at}
 use Rattle.carol_cert.specs.Proof.{proof_of}
 use Rattle.carol_elimination.specs.Choosing.{IsFar as IsFarRow}
-use Rattle.carol_elimination.specs.Due.{rows_at}
 use Rattle.carol_elimination.specs.Entries.{terms_of}
 use Rattle.carol_linear.specs.Answer.{IsDerived, IsWide, IsFar}
 use Rattle.carol_linear.specs.declared.answer.Wide.{Wide as WideReason}

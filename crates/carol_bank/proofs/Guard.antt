@@ -1,17 +1,14 @@
 -- The bank's guard is true of two equal stores, and nothing that is asked of it stays open.
-use Rattle.std.proofs.Common.{◌≡◌, ℕ, zero, suc, ◌+◌, ◌≤◌, Bool, true, false, inl, inr, List, [], ◌∷◌, ◌++◌, length, length-append, refl, sym, ap, subst, lit≤, arith}
-use Rattle.std.specs.Prelude.{ℤ, pos, negsuc, ◌+ℤ◌, ◌*ℤ◌, ◌≤ℤ◌, Some, None, slice_get}
+use Rattle.std.proofs.Common.{◌≡◌, ℕ, zero, suc, Bool, true, false, inl, inr, List, [], ◌∷◌, ◌++◌, length, length-append, refl, ap, subst, lit≤, arith}
+use Rattle.std.specs.Prelude.{ℤ, pos, negsuc, ◌+ℤ◌, ◌*ℤ◌, ◌≤ℤ◌, Some, slice_get}
 use Rattle.std.proofs.lemmas.Int.{ints}
 use Rattle.carol_store.specs.declared.shape.CellKind.{CellKind}
 use Rattle.carol_store.specs.declared.shape.CellKind.TheVariants.{Counter, Peak, Flag}
-use Rattle.carol_store.specs.Kinds.{CellValue, number_of}
-use Rattle.carol_store.specs.Stores.{IsStore}
-use Rattle.carol_formula.specs.Claim.{Claim, True, without_not, cases_of, truth, is_at_most_zero}
+use Rattle.carol_store.specs.Kinds.{CellValue}
+use Rattle.carol_formula.specs.Claim.{Claim, True, without_not, truth}
 use Rattle.carol_formula.proofs.Claims.{is_at_most_zero_from}
 use Rattle.carol_decide.specs.declared.answer.Why.{Why}
-use Rattle.carol_decide.specs.declared.answer.TheConstants.{MOST_LEAVES}
 use Rattle.carol_decide.specs.Answer.{IsStuck}
-use Rattle.carol_decide.specs.Sizes.{OfDifferences}
 use Rattle.carol_program.specs.declared.places.Place.{Place}
 use Rattle.carol_program.specs.declared.places.Place.TheVariants.{Reflexive, Accord}
 use Rattle.carol_program.specs.Variables.{number_in, number_in_two}

@@ -1,5 +1,5 @@
 -- What the truth of a formula comes to, as facts on whole numbers.
-use Rattle.std.proofs.Common.{◌≡◌, ℕ, zero, suc, Bool, true, false, cond, ◌⊎◌, inl, inr, refl, ap, sym, ◌∙◌, arith}
+use Rattle.std.proofs.Common.{◌≡◌, ℕ, zero, suc, Bool, true, false, ◌⊎◌, inl, inr, refl, ap, arith}
 use Rattle.std.specs.Prelude.{not, ◌&&◌, ◌||◌, ℤ, pos, negsuc, ◌≤ℤ◌}
 use Rattle.std.proofs.lemmas.Int.{ints}
 use Rattle.carol_formula.specs.Linear.{is_zero}

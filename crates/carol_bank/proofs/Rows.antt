@@ -1,21 +1,21 @@
--- The rows that elimination derives from those of the deposit's invariant are seven, all of them small.
-use Rattle.std.proofs.Common.{◌≡◌, ◌≢◌, ℕ, zero, suc, ◌+◌, ◌≤◌, ◌<◌, Bool, true, false, cond, eqb, ◌⊎◌, inl, inr, List, [], ◌∷◌, ◌++◌, map, length, length-append, refl, sym, ◌∙◌, ap, subst, lit≤, arith}
+-- The rows that elimination derives from those of the deposit's invariant are seven, all small.
+use Rattle.std.proofs.Common.{◌≡◌, ◌≢◌, ℕ, zero, suc, ◌<◌, true, cond, eqb, inl, inr, List, [], ◌∷◌, ◌++◌, map, length, length-append, refl, sym, ap, subst, lit≤, arith}
 use Rattle.std.specs.Prelude.{ℤ, pos, negsuc, ◌+ℤ◌, ◌≤ℤ◌, slice_index_or}
 use Rattle.std.specs.List.{AllByRecursion}
 use Rattle.std.proofs.lemmas.Int.{ints}
 use Rattle.std.proofs.lemmas.List.{map-append}
 use Rattle.carol_formula.specs.Bounds.{term_limit}
-use Rattle.carol_formula.specs.Linear.{Linear, IsWithin, constant_of}
+use Rattle.carol_formula.specs.Linear.{Linear, constant_of}
 use Rattle.carol_formula.specs.Value.{FitsWithin, value_at, set_at}
 use Rattle.carol_formula.proofs.Orders.{by_same}
 use Rattle.carol_cert.specs.declared.step.RowStep.{RowStep}
 use Rattle.carol_cert.specs.declared.step.RowStep.TheVariants as step
-use Rattle.carol_elimination.specs.Choosing.{IsDerivedBy, AreLastChosen}
+use Rattle.carol_elimination.specs.Choosing.{IsDerivedBy}
 use Rattle.carol_elimination.specs.Choosing.{IsFar as IsFarRow}
-use Rattle.carol_elimination.specs.Derived.{IsDeriving, IsLowest, IsPair, IsLeastSum, Derive, made, row_at}
+use Rattle.carol_elimination.specs.Derived.{IsDeriving, IsLowest, IsPair, Derive, made, row_at}
 use Rattle.carol_elimination.specs.Free.{IsIn}
-use Rattle.carol_elimination.specs.Reasons.{IsNarrowPair, IsWidePair, IsChosenFrom}
-use Rattle.carol_elimination.specs.Stage.{Among, factor_of, is_upper, is_lower, least, eliminated, variables, first_stage, next}
+use Rattle.carol_elimination.specs.Reasons.{IsNarrowPair, IsWidePair}
+use Rattle.carol_elimination.specs.Stage.{factor_of, is_upper, is_lower, least, eliminated, variables, first_stage, next}
 use Rattle.carol_elimination.specs.Tightened.{content, divided}
 use Rattle.carol_elimination.specs.Values.{IsChosen, AreChosen}
 use Rattle.carol_bank.proofs.Sums.{some, few, before, behind, absurd_row, rows}

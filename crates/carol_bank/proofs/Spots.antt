@@ -1,5 +1,5 @@
 -- Nothing that is asked of the bank's operations can fail, or stay open.
-use Rattle.std.proofs.Common.{◌≡◌, ℕ, ◌≤◌, Bool, true, false, ◌⊎◌, inl, inr, List, [], ◌∷◌, refl, lit≤, arith}
+use Rattle.std.proofs.Common.{ℕ, false, inl, inr, refl, lit≤, arith}
 use Rattle.std.specs.Prelude.{ℤ, pos, negsuc}
 use Rattle.std.specs.List.{AllByRecursion}
 use Rattle.std.proofs.lemmas.Int.{ints}

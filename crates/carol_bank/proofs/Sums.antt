@@ -1,6 +1,6 @@
--- The formula of the deposit's invariant, which adds two variables up, is decided: no branch of its rows is
--- due, and elimination makes seven rows of them, all of them small.
-use Rattle.std.proofs.Common.{◌≡◌, ℕ, zero, suc, ◌+◌, ◌≤◌, ◌<◌, Bool, true, false, ◌⊎◌, inl, inr, List, [], ◌∷◌, ◌++◌, map, length, refl, sym, ◌∙◌, ap, subst, lit≤, arith}
+-- The formula of the deposit's invariant, which adds two variables up: it is taken apart in one way,
+-- and no branch of its rows is due.
+use Rattle.std.proofs.Common.{◌≡◌, ℕ, zero, suc, ◌≤◌, inl, inr, List, [], ◌∷◌, ◌++◌, refl, sym, ◌∙◌, ap, subst, lit≤, arith}
 use Rattle.std.specs.Prelude.{Some, ℤ, pos, negsuc, slice_set}
 use Rattle.std.proofs.lemmas.Int.{ints}
 use Rattle.carol_formula.specs.Linear.{Linear}

@@ -10,8 +10,8 @@ use Rattle.carol_typecheck.specs.declared.verdict.Verdict.TheVariants.{Good}
 use Rattle.carol_meaning.specs.Programs.{rules_of}
 use Rattle.carol_generator.specs.Generated.{bank}
 
--- it is accepted; no numbers break its guard at equal stores, nothing that is asked of the guard stays
--- open, and no other verdict on its operations is right
+-- it is accepted; no numbers break its guard at equal stores, nothing that is asked of the guard
+-- stays open, and no other verdict on its operations is right
 pub record BankIsAccepted : Type 0 where
   pub accepted : IsAccepted (rules_of bank)
   pub guards : (number : ℕ) (f : ℕ → ℤ) → ¬ IsNotReflexive (rules_of bank) number f
