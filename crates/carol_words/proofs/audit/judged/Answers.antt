@@ -1,0 +1,14 @@
+use Rattle.std.proofs.Common.{◌≡◌, rules}
+use Rattle.std.specs.Prelude.{Err, codes}
+use Rattle.carol_prepare.specs.Parts.{with_tail}
+use Rattle.carol_prepare.proofs.Told.{parts_before}
+use Rattle.carol_words.specs.Audit.{AuditSays, OffsetSays}
+use Rattle.carol_words.proofs.Fresh.{ends_err}
+use Rattle.carol_words.proofs.audit.judged.Goals as goal
+
+pub returns-in_err-taken : goal.returns-in_err-taken
+returns-in_err-taken g c =
+    let halt = c.in_err-taken.field-0.0 in
+    let is : c.from_residual.result ≡ Err halt = search rules in
+    ends_err (AuditSays c.args.bytes.now) halt c.from_residual.result is
+    (parts_before (codes "audit") with_tail (OffsetSays c.args.bytes.now) c.args.bytes.now halt c.in_err-taken.ensures.told)
