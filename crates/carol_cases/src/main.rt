@@ -20,7 +20,8 @@ use std::fs;
 
 // The files of cases.
 const FILES: [&str; 11] = [
-    "words", "texts", "limits", "scenes", "check", "systems", "step", "run", "audit", "cuts", "long",
+    "words", "texts", "limits", "scenes", "check", "systems", "step", "run", "audit", "cuts",
+    "long",
 ];
 
 fn main(rt: HostRuntime) -> anyhow::Result<()> {

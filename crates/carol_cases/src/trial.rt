@@ -7,7 +7,9 @@ use std::thread::Threads;
 
 // So many bytes are read and written at once, at most, and so many are written in all.
 const READ: usize = 100;
+
 const WRITTEN: usize = 5;
+
 const ROOM: usize = 65_536;
 
 /// Whether the whole case and each of its parts come out as they are to. It prints what came where

@@ -8,7 +8,6 @@ use Rattle.carol_store.specs.declared.effect.Atom.{Atom}
 use Rattle.carol_store.specs.Kinds.{CellValue, IsAmount, value_of}
 use Rattle.carol_store.specs.Stores.{apply}
 use Rattle.carol_formula.specs.Claim.{truth}
-use Rattle.carol_formula.specs.Linear.{Linear}
 use Rattle.carol_formula.specs.Value.{value_at, set_at}
 use Rattle.carol_program.specs.declared.steps.Part.{Part}
 use Rattle.carol_program.specs.Bodies.{Body, Query, Issue, Release, Branch, Return}

@@ -1,8 +1,8 @@
 ghost use Rattle.std.specs.Prelude.{◌≤◌, length};
 ghost use Rattle.carol_syntax.specs.Limits.{most_text_bytes};
 
-use carol_parse::{parse, print};
 use carol_generator::generate;
+use carol_parse::{parse, print};
 use std::alloc::{AllocError, Global};
 use std::test::Fail;
 

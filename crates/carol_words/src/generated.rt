@@ -5,12 +5,12 @@ ghost use Rattle.carol_reply.specs.Reply.{Ends, answer_of};
 ghost use Rattle.carol_words.specs.Gen.{GenSays, IsSummed, SceneSums, gen_meaning};
 
 use super::fresh::fresh_house;
+use carol_generator::{MOST_PER_SESSION, generate};
 use carol_grammar::one_outcome;
 use carol_house::House;
 use carol_prepare::{Placed, take_scene};
 use carol_reply::{Halt, Reply, Status, ended};
 use carol_report::{run_in_turns, summary, turns_laws};
-use carol_generator::{MOST_PER_SESSION, generate};
 use carol_simulation::bound_laws;
 use std::alloc::{AllocError, Global};
 use std::thread::Threads;
