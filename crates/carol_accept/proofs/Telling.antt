@@ -1,30 +1,29 @@
 -- The lines at a place tell whether the numbers are a breach there.
-use Rattle.std.proofs.Common.{◌≡◌, ℕ, zero, suc, ◌+◌, ◌≤◌, ◌<◌, ◌^◌, Bool, true, false, cond, eqb, List, [], ◌∷◌, ◌++◌, length, refl, sym, ◌∙◌, ap, subst, append_assoc, arith}
-use Rattle.std.specs.Prelude.{◌↔◌, ℤ, map, Option, Some, None, slice_get}
+use Rattle.std.proofs.Common.{◌≡◌, ℕ, zero, suc, ◌+◌, ◌≤◌, ◌^◌, Bool, true, false, cond, eqb, List, [], ◌∷◌, ◌++◌, length, refl, sym, ◌∙◌, ap, subst, append_assoc, arith}
+use Rattle.std.specs.Prelude.{ℤ, map, Option, Some, slice_get}
 use Rattle.std.specs.List.{AllByRecursion}
 use Rattle.std.proofs.lemmas.Bool.{eq-eqb}
 use Rattle.std.proofs.lemmas.List.{append-nil}
-use Rattle.carol_store.specs.declared.shape.CellKind.{CellKind}
 use Rattle.carol_formula.specs.Bounds.{AreNear}
 use Rattle.carol_program.specs.declared.names.Names.{Names}
 use Rattle.carol_program.specs.declared.places.Place.{Place}
 use Rattle.carol_program.specs.Rules.{Rules, OpRules}
 use Rattle.carol_program.specs.Variables.{query_variable}
-use Rattle.carol_program.specs.WellFormed.{AreRules, IsOpOver}
+use Rattle.carol_program.specs.WellFormed.{IsOpOver}
 use Rattle.carol_obligation.specs.Ways.{Way, Asks, Puts, Frees, Tests, rounds_of, has_query}
 use Rattle.carol_obligation.specs.Sites.{Ending, Amount, After, Gives, Site}
 use Rattle.carol_obligation.specs.Decoded.{round_variable}
 use Rattle.carol_obligation.specs.Breaches.{HasTies, IsBreach}
 use Rattle.carol_obligation.specs.Places.{place_of, sites_of}
-use Rattle.carol_obligation.specs.Spots.{Spot, spot_at, place_at, spots_from, spots_of}
+use Rattle.carol_obligation.specs.Spots.{Spot, spot_at, spots_from}
 use Rattle.carol_obligation.proofs.Alike.{IsFitSite, SameAlong, SameFrom, breach_as, fit_sites}
 use Rattle.carol_obligation.proofs.Each.{all-append, all-map, all_both}
 use Rattle.carol_obligation.proofs.Spots.{AreOver}
 use Rattle.carol_accept.specs.declared.trail.Asked.{Asked}
 use Rattle.carol_accept.specs.declared.trail.Trail.{Trail}
 use Rattle.carol_accept.specs.Trails.{start, trail_of, trail_to}
-use Rattle.carol_accept.specs.Lines.{asks_in, lines_text, own_text, queries_text, rounds_text, shown_for, statement_lines, trail_text}
-use Rattle.carol_accept.specs.LineLaws.{AreShown, IsToldByLines, IsTrailed, LinesTell, TrailsAreWays}
+use Rattle.carol_accept.specs.Lines.{asks_in, lines_text, own_text, rounds_text, shown_for, statement_lines, trail_text}
+use Rattle.carol_accept.specs.LineLaws.{IsToldByLines, IsTrailed, LinesTell, TrailsAreWays}
 use Rattle.carol_accept.specs.Named.{variable_text}
 use Rattle.carol_accept.proofs.Decoding.{numbers_parts, queries_parts, rounds_parts}
 use Rattle.carol_accept.proofs.Trailing.{Found, found_sites}
