@@ -29,7 +29,7 @@ use Rattle.carol_reply.specs.Reply.{Ends, HaltSays, HaltTells, answer_of}
 use Rattle.carol_reply.specs.Texts.{Answer}
 use Rattle.carol_reply.proofs.Agreeing.{Agrees, AreOwn, IsSettled, agree_same, halt_map, halt_told}
 use Rattle.carol_words.specs.Audit.{AuditSays, IsAudited, IsOfTail, IsToldTail, OffsetSays, TailSays, audit_meaning, feeds_in, finding_answer, line_at, tail_answer}
-use Rattle.carol_words.proofs.Fresh.{ends_more}
+use Rattle.carol_words.proofs.Opened.{ends_more}
 use Rattle.carol_words.proofs.Stepped.{same_rules}
 
 -- ---- the events of a tail

@@ -24,7 +24,7 @@ use Rattle.carol_report.specs.Turns.{Turns}
 use Rattle.carol_generator.specs.Generated.{generated_text}
 use Rattle.carol_simulation.specs.Laws.{RunsAreShort}
 use Rattle.carol_words.specs.Gen.{GenSays, IsSummed, SceneSums, gen_meaning, gen_words}
-use Rattle.carol_words.proofs.Fresh.{ends_more}
+use Rattle.carol_words.proofs.Opened.{ends_more}
 use Rattle.carol_words.proofs.Stepped.{same_rules}
 use Rattle.carol_words.proofs.Turned.{turns_short}
 

@@ -3,7 +3,7 @@ use Rattle.std.specs.Prelude.{Err, codes}
 use Rattle.carol_prepare.specs.Parts.{with_tail}
 use Rattle.carol_prepare.proofs.Told.{parts_before}
 use Rattle.carol_words.specs.Audit.{AuditSays, OffsetSays}
-use Rattle.carol_words.proofs.Fresh.{ends_err}
+use Rattle.carol_words.proofs.Opened.{ends_err}
 use Rattle.carol_words.proofs.audit.judged.Goals as goal
 
 pub returns-in_err-taken : goal.returns-in_err-taken

@@ -5,14 +5,15 @@ use Rattle.carol_prepare.proofs.Told.{program_before, program_said}
 use Rattle.carol_reply.specs.declared.status.Status.TheVariants as status
 use Rattle.carol_words.specs.Check.{CheckSays, IsAccorded}
 use Rattle.carol_words.proofs.Checked.{not_accorded}
-use Rattle.carol_words.proofs.Fresh.{ends_err}
+use Rattle.carol_reply.specs.declared.halt.Halt.TheVariants.{NoMemory}
+use Rattle.carol_words.proofs.Opened.{ends_err, ends_none}
 use Rattle.carol_words.proofs.check.accords.Goals as goal
 
 pub returns-in_err-program : goal.returns-in_err-program
 returns-in_err-program g c =
     let halt = c.in_err-program.field-0.0 in
-    let is : c.from_residual-in_err-program.result ≡ Err halt = search rules in
-    ends_err (CheckSays c.args.bytes.now) halt c.from_residual-in_err-program.result is
+    let is : c.from_residual.result ≡ Err halt = search rules in
+    ends_err (CheckSays c.args.bytes.now) halt c.from_residual.result is
     (program_before (VerdictSays IsAccorded) c.args.bytes.now halt c.in_err-program.ensures.told)
 
 pub returns-in_err-kept : goal.returns-in_err-kept
@@ -26,3 +27,8 @@ pub returns : goal.returns
 returns g c =
     program_said (VerdictSays IsAccorded) c.args.bytes.now c.in_ok-program.program (status.Ok, c.in_ok-text.text.items) c.in_ok-program.ensures.program
     (inr (record { kept = c.in_ok-kept.kept; is_kept = c.in_ok-kept.ensures.kept; says = ap (λ t. (status.Ok, t)) c.in_ok-text.ensures }))
+
+pub returns-in_err-text : goal.returns-in_err-text
+returns-in_err-text g c =
+    let is : c.from_residual-in_err-text.result ≡ Err NoMemory = search rules in
+    ends_none (CheckSays c.args.bytes.now) c.from_residual-in_err-text.result is

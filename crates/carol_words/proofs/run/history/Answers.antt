@@ -3,7 +3,7 @@ use Rattle.std.specs.Prelude.{Err, codes}
 use Rattle.carol_prepare.specs.Parts.{scene_alone}
 use Rattle.carol_prepare.proofs.Told.{parts_before, parts_said}
 use Rattle.carol_words.specs.Run.{RunSays, SceneRuns}
-use Rattle.carol_words.proofs.Fresh.{ends_err, ends_more}
+use Rattle.carol_words.proofs.Opened.{ends_err, ends_more}
 use Rattle.carol_words.proofs.run.history.Goals as goal
 
 pub returns-in_err-placed : goal.returns-in_err-placed

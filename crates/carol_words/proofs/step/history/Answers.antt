@@ -3,7 +3,7 @@ use Rattle.std.specs.Prelude.{Err, codes}
 use Rattle.carol_prepare.specs.Parts.{with_script}
 use Rattle.carol_prepare.proofs.Told.{parts_before, parts_said}
 use Rattle.carol_words.specs.Step.{ScriptSays, StepSays}
-use Rattle.carol_words.proofs.Fresh.{ends_err, ends_more}
+use Rattle.carol_words.proofs.Opened.{ends_err, ends_more}
 use Rattle.carol_words.proofs.step.history.Goals as goal
 
 pub returns-in_err-taken : goal.returns-in_err-taken
