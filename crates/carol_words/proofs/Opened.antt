@@ -1,6 +1,6 @@
 -- What is told of a program whose house was made.
 use Rattle.std.proofs.Common.{◌≡◌, sym, subst, inl, inr}
-use Rattle.std.specs.Prelude.{Result, Ok, Err}
+use Rattle.std.specs.Prelude.{Result, Ok, Err, IsErrAnd}
 use Rattle.carol_house.specs.House.{House}
 use Rattle.carol_prepare.specs.Verdicts.{IsToldRefused, VerdictSays}
 use Rattle.carol_program.specs.declared.program.Program.{Program}
@@ -34,5 +34,6 @@ ends_more one two to (Ok reply) h = to (answer_of reply) h
 ends_more one two to (Err halt) h = halt_map one two to halt h
 
 -- or for want of memory
-pub ends_none : (said : Answer → Type 0) (r : Result Reply Halt) → r ≡ Err NoMemory → Ends said r
-ends_none said r is = ends_err said NoMemory r is tt
+pub ends_none : (said : Answer → Type 0) (r : Result Reply Halt) → IsErrAnd r (λ halt. halt ≡ NoMemory) → Ends said r
+ends_none said (Ok reply) h = absurd h
+ends_none said (Err halt) h = subst (HaltSays said) (sym h) tt

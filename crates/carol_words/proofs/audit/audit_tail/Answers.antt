@@ -3,7 +3,6 @@ use Rattle.std.specs.Prelude.{Err}
 use Rattle.carol_reply.specs.Reply.{answer_of}
 use Rattle.carol_words.specs.Audit.{TailSays}
 use Rattle.carol_words.proofs.Audited.{tail_audited, tail_before, tail_refused}
-use Rattle.carol_reply.specs.declared.halt.Halt.TheVariants.{NoMemory}
 use Rattle.carol_words.proofs.Opened.{ends_err, ends_none}
 use Rattle.carol_words.proofs.audit.audit_tail.Goals as goal
 
@@ -28,5 +27,4 @@ returns g c =
 
 pub returns-in_err-find : goal.returns-in_err-find
 returns-in_err-find g c =
-    let is : c.from_residual-in_err-find.result ≡ Err NoMemory = search rules in
-    ends_none (TailSays c.args.tail.now c.args.line c.args.placed.program c.args.placed.scene) c.from_residual-in_err-find.result is
+    ends_none (TailSays c.args.tail.now c.args.line c.args.placed.program c.args.placed.scene) c.from_residual-in_err-find.result c.from_residual-in_err-find.ensures.1

@@ -5,7 +5,6 @@ use Rattle.carol_prepare.proofs.Told.{program_before, program_said}
 use Rattle.carol_reply.specs.declared.status.Status.TheVariants as status
 use Rattle.carol_words.specs.Check.{CheckSays, IsAccorded}
 use Rattle.carol_words.proofs.Checked.{not_accorded}
-use Rattle.carol_reply.specs.declared.halt.Halt.TheVariants.{NoMemory}
 use Rattle.carol_words.proofs.Opened.{ends_err, ends_none}
 use Rattle.carol_words.proofs.check.accords.Goals as goal
 
@@ -30,5 +29,4 @@ returns g c =
 
 pub returns-in_err-text : goal.returns-in_err-text
 returns-in_err-text g c =
-    let is : c.from_residual-in_err-text.result ≡ Err NoMemory = search rules in
-    ends_none (CheckSays c.args.bytes.now) c.from_residual-in_err-text.result is
+    ends_none (CheckSays c.args.bytes.now) c.from_residual-in_err-text.result c.from_residual-in_err-text.ensures.1

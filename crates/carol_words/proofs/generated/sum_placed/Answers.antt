@@ -2,7 +2,6 @@ use Rattle.std.proofs.Common.{◌≡◌, rules}
 use Rattle.std.specs.Prelude.{Err}
 use Rattle.carol_reply.specs.Reply.{answer_of}
 use Rattle.carol_words.specs.Gen.{IsSummed, SceneSums}
-use Rattle.carol_reply.specs.declared.halt.Halt.TheVariants.{NoMemory}
 use Rattle.carol_words.proofs.Opened.{ends_err, ends_none, fresh_said, not_fresh}
 use Rattle.carol_words.proofs.generated.sum_placed.Goals as goal
 
@@ -19,5 +18,4 @@ returns g c =
 
 pub returns-in_err-sum_house : goal.returns-in_err-sum_house
 returns-in_err-sum_house g c =
-    let is : c.from_residual-in_err-sum_house.result ≡ Err NoMemory = search rules in
-    ends_none (SceneSums c.args.count tt c.args.placed.program c.args.placed.scene) c.from_residual-in_err-sum_house.result is
+    ends_none (SceneSums c.args.count tt c.args.placed.program c.args.placed.scene) c.from_residual-in_err-sum_house.result c.from_residual-in_err-sum_house.ensures.1

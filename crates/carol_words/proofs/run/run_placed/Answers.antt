@@ -2,7 +2,6 @@ use Rattle.std.proofs.Common.{◌≡◌, rules}
 use Rattle.std.specs.Prelude.{Err}
 use Rattle.carol_reply.specs.Reply.{answer_of}
 use Rattle.carol_words.specs.Run.{IsToldRun, SceneRuns}
-use Rattle.carol_reply.specs.declared.halt.Halt.TheVariants.{NoMemory}
 use Rattle.carol_words.proofs.Opened.{ends_err, ends_none, fresh_said, not_fresh}
 use Rattle.carol_words.proofs.Ran.{told_run}
 use Rattle.carol_words.proofs.run.run_placed.Goals as goal
@@ -23,10 +22,8 @@ returns g c =
 
 pub returns-in_err-house : goal.returns-in_err-house
 returns-in_err-house g c =
-    let is : c.from_residual-in_err-house.result ≡ Err NoMemory = search rules in
-    ends_none (SceneRuns tt c.args.placed.program c.args.placed.scene) c.from_residual-in_err-house.result is
+    ends_none (SceneRuns tt c.args.placed.program c.args.placed.scene) c.from_residual-in_err-house.result c.from_residual-in_err-house.ensures.1
 
 pub returns-in_err-told : goal.returns-in_err-told
 returns-in_err-told g c =
-    let is : c.from_residual-in_err-told.result ≡ Err NoMemory = search rules in
-    ends_none (SceneRuns tt c.args.placed.program c.args.placed.scene) c.from_residual-in_err-told.result is
+    ends_none (SceneRuns tt c.args.placed.program c.args.placed.scene) c.from_residual-in_err-told.result c.from_residual-in_err-told.ensures.1

@@ -2,7 +2,6 @@ use Rattle.std.proofs.Common.{◌≡◌, rules}
 use Rattle.std.specs.Prelude.{Err}
 use Rattle.carol_reply.specs.Reply.{answer_of}
 use Rattle.carol_words.specs.Step.{IsPlayed, ScriptSays}
-use Rattle.carol_reply.specs.declared.halt.Halt.TheVariants.{NoMemory}
 use Rattle.carol_words.proofs.Opened.{ends_err, ends_none, fresh_said, not_fresh}
 use Rattle.carol_words.proofs.step.carried_out.Goals as goal
 
@@ -19,5 +18,4 @@ returns g c =
 
 pub returns-in_err-play : goal.returns-in_err-play
 returns-in_err-play g c =
-    let is : c.from_residual-in_err-play.result ≡ Err NoMemory = search rules in
-    ends_none (ScriptSays c.args.script.now c.args.placed.program c.args.placed.scene) c.from_residual-in_err-play.result is
+    ends_none (ScriptSays c.args.script.now c.args.placed.program c.args.placed.scene) c.from_residual-in_err-play.result c.from_residual-in_err-play.ensures.1
