@@ -178,3 +178,13 @@ write_fault asked source source' sink sink' answered h is = elim h.wrote.written
   | inl w ↦ absurd (never_written asked source source' h.meant h.text h.means (sym w.0 ∙ is))
   | inr w ↦ w.1
 ]
+
+-- ---- the whole call
+
+pub answered_by : (asked : Option Command) (source source' sink sink' : End) (meant : Status) (text : List ℕ) (answered : Status) → MeantBy asked source source' meant text
+    → Wrote sink sink' meant text answered → AnsweredBy asked source source' sink sink' answered
+answered_by asked source source' sink sink' meant text answered means wrote = record { meant = meant; text = text; means = means; wrote = wrote }
+
+pub answered_as : (one two : Option Command) (source source' sink sink' : End) (answered : Status) → one ≡ two → AnsweredBy one source source' sink sink' answered
+    → AnsweredBy two source source' sink sink' answered
+answered_as one two source source' sink sink' answered same h = subst (λ k. AnsweredBy k source source' sink sink' answered) same h

@@ -1,6 +1,6 @@
 -- That what `audit` means is settled, and what is told of what was found.
 use Rattle.std.proofs.Common.{◌≡◌, ◌≢◌, List, ℕ, refl, sym, ◌∙◌, ap, subst, inl, inr}
-use Rattle.std.specs.Prelude.{Option, None, Some, Result, Ok, Err, IfOk, codes, drop}
+use Rattle.std.specs.Prelude.{Option, None, Some, Result, Ok, Err, IfOk, codes, drop, take, ◌+◌}
 use Rattle.std.specs.declared.alloc.AllocError.{AllocError}
 use Rattle.carol_accept.specs.Refusals.{IsKeptAs}
 use Rattle.carol_audit.specs.declared.error.TailError.{TailError}
@@ -12,9 +12,10 @@ use Rattle.carol_audit.specs.Laws.{FindingsAreSingle}
 use Rattle.carol_audit.specs.TailLaws.{FaultsAreSingle, ReadHasNoFault}
 use Rattle.carol_audit.specs.Tails.{HasEvents, IsFault}
 use Rattle.carol_event.specs.declared.event.Event.{Event}
-use Rattle.carol_prepare.specs.Parts.{with_tail}
+use Rattle.carol_prepare.specs.Parts.{HasParts, with_tail}
 use Rattle.carol_prepare.specs.Verdicts.{IsToldRefused, VerdictSays}
 use Rattle.carol_prepare.proofs.Refusals.{IsOfAccepted}
+use Rattle.carol_prepare.proofs.Told.{parts_said}
 use Rattle.carol_prepare.proofs.Settled.{AreAlike, OneOutcome, parts_agree, parts_own, verdict_agree, verdict_own}
 use Rattle.carol_program.specs.declared.program.Program.{Program}
 use Rattle.carol_program.specs.declared.scenes.Scene.{Scene}
@@ -24,10 +25,11 @@ use Rattle.carol_reading.specs.Kept.{Kept}
 use Rattle.carol_reply.specs.declared.halt.Halt.{Halt}
 use Rattle.carol_reply.specs.declared.reply.Reply.{Reply}
 use Rattle.carol_reply.specs.Meaning.{IsOwn}
-use Rattle.carol_reply.specs.Reply.{HaltSays, HaltTells, answer_of}
+use Rattle.carol_reply.specs.Reply.{Ends, HaltSays, HaltTells, answer_of}
 use Rattle.carol_reply.specs.Texts.{Answer}
 use Rattle.carol_reply.proofs.Agreeing.{Agrees, AreOwn, IsSettled, agree_same, halt_map, halt_told}
-use Rattle.carol_words.specs.Audit.{IsAudited, IsOfTail, IsToldTail, OffsetSays, TailSays, audit_meaning, finding_answer, line_at, tail_answer}
+use Rattle.carol_words.specs.Audit.{AuditSays, IsAudited, IsOfTail, IsToldTail, OffsetSays, TailSays, audit_meaning, feeds_in, finding_answer, line_at, tail_answer}
+use Rattle.carol_words.proofs.Opened.{ends_more}
 use Rattle.carol_words.proofs.Stepped.{same_rules}
 
 -- ---- the events of a tail
@@ -130,3 +132,13 @@ tail_audited tail first program scene events kept answer has is h = inr (record 
   has = has;
   says = inr (record { kept = kept; is_kept = is; says = h });
 })
+
+-- what is told of the tail is told of the bytes
+pub tail_said : (bytes : List ℕ) (offset : ℕ) (front tail : List ℕ) (line : ℕ) (program : Program) (scene : Scene) (r : Result Reply Halt)
+    → HasParts with_tail bytes offset program scene → front ≡ take offset bytes → tail ≡ drop offset bytes → line ≡ feeds_in front + 1
+    → Ends (TailSays tail line program scene) r → Ends (AuditSays bytes) r
+tail_said bytes offset front tail line program scene r has before behind counted =
+    ends_more (TailSays tail line program scene) (AuditSays bytes)
+    (λ answer h. parts_said (codes "audit") with_tail (OffsetSays bytes) bytes offset program scene answer has
+    (subst (λ (n : ℕ). TailSays (drop offset bytes) n program scene answer) (counted ∙ ap (λ f. feeds_in f + 1) before)
+    (subst (λ (t : List ℕ). TailSays t line program scene answer) behind h))) r

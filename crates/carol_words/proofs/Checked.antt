@@ -1,18 +1,21 @@
 -- That what `check` means is settled.
-use Rattle.std.proofs.Common.{◌≡◌, List, ℕ, refl, sym, ◌∙◌, ap, subst}
+use Rattle.std.proofs.Common.{◌≡◌, List, ℕ, refl, sym, ◌∙◌, ap, subst, inl}
 use Rattle.carol_accept.specs.Refusals.{IsKeptAs}
 use Rattle.carol_accept.specs.Texts.{accord_text}
-use Rattle.carol_prepare.specs.Verdicts.{VerdictSays}
+use Rattle.carol_prepare.specs.Parts.{HasProgram}
+use Rattle.carol_prepare.specs.Verdicts.{IsToldRefused, VerdictSays}
 use Rattle.carol_prepare.proofs.Refusals.{IsOfAccepted}
+use Rattle.carol_prepare.proofs.Told.{program_said}
 use Rattle.carol_prepare.proofs.Settled.{AreAlike, OneOutcome, program_agree, program_own, verdict_agree, verdict_own}
 use Rattle.carol_program.specs.declared.program.Program.{Program}
 use Rattle.carol_program.specs.Preserving.{IsRight}
 use Rattle.carol_program.specs.Rules.{Rules, rules_in}
 use Rattle.carol_reading.specs.Kept.{Kept}
+use Rattle.carol_reply.specs.declared.halt.Halt.{Halt}
 use Rattle.carol_reply.specs.declared.status.Status.TheVariants as status
-use Rattle.carol_reply.specs.Meaning.{Agree}
+use Rattle.carol_reply.specs.Reply.{HaltSays}
 use Rattle.carol_reply.specs.Texts.{Answer}
-use Rattle.carol_reply.proofs.Agreeing.{Agrees, AreOwn, IsSettled, agree_same}
+use Rattle.carol_reply.proofs.Agreeing.{Agrees, IsSettled, agree_same, halt_map}
 use Rattle.carol_words.specs.Check.{CheckSays, IsAccorded, check_meaning}
 use Rattle.carol_words.proofs.Accorded.{IsWhole, accord_text-same}
 
@@ -42,3 +45,7 @@ checks once = record {
   agree = program_agree once (Unit {0}) (VerdictSays IsAccorded)
       (λ one two alike. verdict_agree (Unit {0}) IsAccorded accorded_own one two alike (accorded_agree one two alike));
 }
+
+-- the program isn't accepted
+pub not_accorded : (bytes : List ℕ) (program : Program) (halt : Halt) → HasProgram bytes program → HaltSays (IsToldRefused program) halt → HaltSays (CheckSays bytes) halt
+not_accorded bytes program halt has = halt_map (IsToldRefused program) (CheckSays bytes) (λ answer h. program_said (VerdictSays IsAccorded) bytes program answer has (inl h)) halt

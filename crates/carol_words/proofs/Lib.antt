@@ -1,6 +1,6 @@
 pub mod Accorded
 pub mod Checked
-pub mod Fresh
+pub mod Opened
 pub mod Stepped
 pub mod Ran
 pub mod Turned

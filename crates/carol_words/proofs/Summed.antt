@@ -1,16 +1,21 @@
 -- That what `gen N` means is settled, and what is told of a house in which sessions went on in turn.
 use Rattle.std.proofs.Common.{◌≡◌, ℕ, List, [], sym, ◌∙◌, ap, subst}
+use Rattle.std.specs.Prelude.{Result}
 use Rattle.carol_accept.specs.Refusals.{IsKeptAs}
 use Rattle.carol_event.specs.declared.event.Event.{Event}
 use Rattle.carol_house.specs.House.{House, IsHistory, IsOverSame, UpholdsAll, rules_of}
-use Rattle.carol_prepare.specs.Parts.{scene_alone}
+use Rattle.carol_prepare.specs.Parts.{HasParts, Nothing, PartsSay, scene_alone}
 use Rattle.carol_prepare.proofs.Refusals.{IsOfAccepted}
+use Rattle.carol_prepare.proofs.Told.{parts_before, parts_said}
 use Rattle.carol_prepare.proofs.Settled.{AreAlike, OneOutcome, parts_agree, parts_own, verdict_agree, verdict_own}
 use Rattle.carol_program.specs.declared.program.Program.{Program}
 use Rattle.carol_program.specs.declared.scenes.Scene.{Scene}
 use Rattle.carol_program.specs.Rules.{Rules, rules_in}
 use Rattle.carol_reading.specs.Kept.{Kept}
+use Rattle.carol_reply.specs.declared.halt.Halt.{Halt}
+use Rattle.carol_reply.specs.declared.reply.Reply.{Reply}
 use Rattle.carol_reply.specs.declared.status.Status.TheVariants as status
+use Rattle.carol_reply.specs.Reply.{Ends, HaltSays}
 use Rattle.carol_reply.specs.Texts.{Answer}
 use Rattle.carol_reply.proofs.Agreeing.{Agrees, IsSettled, agree_same}
 use Rattle.carol_report.specs.Laws.{TurnsMakeOne}
@@ -18,7 +23,8 @@ use Rattle.carol_report.specs.Summary.{summary_text}
 use Rattle.carol_report.specs.Turns.{Turns}
 use Rattle.carol_generator.specs.Generated.{generated_text}
 use Rattle.carol_simulation.specs.Laws.{RunsAreShort}
-use Rattle.carol_words.specs.Gen.{IsSummed, SceneSums, gen_meaning, gen_words}
+use Rattle.carol_words.specs.Gen.{GenSays, IsSummed, SceneSums, gen_meaning, gen_words}
+use Rattle.carol_words.proofs.Opened.{ends_more}
 use Rattle.carol_words.proofs.Stepped.{same_rules}
 use Rattle.carol_words.proofs.Turned.{turns_short}
 
@@ -63,3 +69,18 @@ told_summed law count old new answer empty over turns is upheld told =
     made = subst (λ (k : Kept). Turns (rules_in k.program) new.scene [] new.history) (sym over.kept)
         (subst (λ (s : Scene). Turns (rules_of old) s [] new.history) (sym over.scene)
         (subst (λ (past : List Event). Turns (rules_of old) old.scene past new.history) empty turns))
+
+-- what is told of the text that was made is told of the number
+pub gen_before : (count : ℕ) (word bytes : List ℕ) (halt : Halt) → word ≡ gen_words count → bytes ≡ generated_text count
+    → HaltSays (PartsSay word scene_alone Nothing bytes) halt → HaltSays (GenSays count) halt
+gen_before count word bytes halt named made h =
+    parts_before (gen_words count) scene_alone (SceneSums count) (generated_text count) halt
+    (subst (λ (w : List ℕ). HaltSays (PartsSay w scene_alone Nothing (generated_text count)) halt) named
+    (subst (λ (b : List ℕ). HaltSays (PartsSay word scene_alone Nothing b) halt) made h))
+
+pub gen_said : (count : ℕ) (bytes : List ℕ) (program : Program) (scene : Scene) (r : Result Reply Halt) → bytes ≡ generated_text count
+    → HasParts scene_alone bytes tt program scene → Ends (SceneSums count tt program scene) r → Ends (GenSays count) r
+gen_said count bytes program scene r made has =
+    ends_more (SceneSums count tt program scene) (GenSays count)
+    (λ answer h. parts_said (gen_words count) scene_alone (SceneSums count) (generated_text count) tt program scene answer
+    (subst (λ (b : List ℕ). HasParts scene_alone b tt program scene) made has) h) r
