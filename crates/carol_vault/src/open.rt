@@ -41,7 +41,7 @@ impl<D: Disk> Vault<D> {
         ensures any_moment { let after = disk_of result in
             LeavesOnly D.moment D.left_since disk after
             (λ c. D.may_leave disk c
-                ⊎ StandsFor (rules_in accepted.program) scene (D.seen disk) c) }
+            ⊎ StandsFor (rules_in accepted.program) scene (D.seen disk) c) }
         ensures synced { let after = disk_of result in
             D.moment disk < D.moment after → (c : List ℕ) →
             D.left_since after (D.moment disk + 1) c →
