@@ -1,2 +1,6 @@
+mod Standing
+mod Going
+mod Texts
+mod AccordTexts
 mod Starting
 mod Refusing

@@ -1,2 +1,7 @@
+pub mod Named
+pub mod Trails
+pub mod Fitting
+pub mod Lines
+pub mod Texts
 pub mod Refusals
 pub mod Verdicts

@@ -35,7 +35,7 @@ AreReflexive p = AllByRecursion (IsReflexive p) p.guards
 -- all that is asked of the guards is decided, and each is true of any two equal stores
 pub record HasAccords (p : Rules) : Type 0 where
   pub table : Accords
-  pub right : IsRight p.shape p.guards table
+  pub right : IsRight p table
   pub witnesses : HasWitnesses p.shape p.guards table
   pub reflexive : AreReflexive p
 

@@ -10,8 +10,8 @@ use Rattle.carol_program.specs.Variables.{number_in}
 use Rattle.carol_program.specs.WellFormed.{AreRules}
 use Rattle.carol_decide.specs.declared.answer.Why.{Why}
 use Rattle.carol_decide.specs.declared.answer.Why.TheVariants.{Leaves, Wide, Far}
-use Rattle.carol_place_texts.specs.Named.{place_text, variable_text}
-use Rattle.carol_place_texts.specs.Lines.{lines_text}
+use Rattle.carol_accept.specs.Named.{place_text, variable_text}
+use Rattle.carol_accept.specs.Lines.{lines_text}
 use Rattle.carol_accept.specs.declared.refused.Refused.{Refused}
 use Rattle.carol_accept.specs.declared.refused.Refused.TheVariants.{InitialFails, NotReflexive, Fails, Undecided, NoMemory}
 

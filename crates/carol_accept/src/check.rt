@@ -40,7 +40,7 @@ fn accept_with<R: Threads + Sync>(
 ) -> Result<Accepted, Refused>
     requires well_formed { IsWellFormed (rules_in program) program.names }
     requires starts { StartsWell (rules_in program) }
-    requires right { IsRight (rules_in program).shape (rules_in program).guards accords }
+    requires right { IsRight (rules_in program) accords }
     requires whole { IsTable accords }
     requires witnesses { HasWitnesses (rules_in program).shape (rules_in program).guards accords }
     requires reflexive { AreReflexive (rules_in program) }

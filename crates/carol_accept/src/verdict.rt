@@ -12,9 +12,9 @@ ghost use Rattle.carol_program.specs.Rules.{rules_in};
 ghost use Rattle.carol_program.specs.WellFormed.{AreRules};
 
 use crate::refused::Refused;
+use crate::{push_lines, push_place, push_text, push_variable};
 use carol_decide::Why;
 use carol_formula::Lookup;
-use carol_place_texts::{push_lines, push_place, push_text, push_variable};
 use carol_program::{Names, OneStore, Place, Program};
 use std::alloc::{AllocError, Global};
 

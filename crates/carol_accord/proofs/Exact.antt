@@ -14,13 +14,13 @@ use Rattle.carol_formula.specs.Linear.{constant_of, variable_of, difference_of}
 use Rattle.carol_formula.specs.Value.{value_at}
 use Rattle.carol_formula.proofs.Claims.{at_most_zero, is_at_most_zero_from}
 use Rattle.carol_formula.proofs.Sums.{value_at-sum_of, value_at-difference_of}
-use Rattle.carol_renaming.specs.Named.{named_claim, through}
-use Rattle.carol_renaming.proofs.Renaming.{truth-named_claim}
+use Rattle.carol_formula.specs.Named.{named_claim, through}
+use Rattle.carol_formula.proofs.Renamings.{truth-named_claim}
 use Rattle.carol_program.specs.Preserving.{Preserves}
 use Rattle.carol_program.specs.Rules.{Rules}
-use Rattle.carol_program.specs.Variables.{number_in, number_in_two, there_variable}
+use Rattle.carol_program.specs.Variables.{number_in, number_in_two, there_variable, store_at}
 use Rattle.carol_reading.specs.Good.{IsReflexive}
-use Rattle.carol_accord.specs.Broken.{cells_from, here_of, there_of, BreaksEqual, BreaksStep}
+use Rattle.carol_accord.specs.Broken.{here_of, there_of, BreaksEqual, BreaksStep}
 use Rattle.carol_accord.specs.Formed.{is_flag, with_flag, flags, equal_name, equal_claim, stepped_name, step_name, step_claim}
 use Rattle.carol_accord.specs.Parts.{IsGuard}
 use Rattle.carol_accord.proofs.Cells.{cells-same, cells-back, cells-stepped, truth-stores}
@@ -78,7 +78,7 @@ module _ (f : ℕ → ℤ) where
       let parts = and-parts (truth (is_flag v) f) (truth c f)
       in (λ h. let both = parts.0 h in ((is_flag-says v).0 both.0, both.1), λ h. parts.1 ((is_flag-says v).1 h.0, h.1))
 
-  flags-say : (kinds : List CellKind) (base : ℕ) → (truth (flags kinds base) f ≡ true) ↔ IsStore kinds (cells_from kinds base f)
+  flags-say : (kinds : List CellKind) (base : ℕ) → (truth (flags kinds base) f ≡ true) ↔ IsStore kinds (store_at kinds base f)
   flags-say [] base = (λ h. tt, λ h. refl)
   flags-say (kind ∷ kinds) base =
       let own = with_flag-says kind base (flags kinds (base + 1))

@@ -10,7 +10,7 @@ use Rattle.carol_program.specs.declared.accords.Entry.{Entry}
 use Rattle.carol_program.specs.declared.accords.Entry.TheVariants.{Yes, No}
 use Rattle.carol_program.specs.declared.places.Place.TheVariants.{Initial, Reflexive, Accord, Amount, Invariant, Outcome}
 use Rattle.carol_program.specs.declared.program.Guard.{Guard}
-use Rattle.carol_program.specs.Accords.{Accords, HasWay, ways, place_of}
+use Rattle.carol_program.specs.Accords.{Accords, HasWay, row_length, place_of}
 use Rattle.carol_program.specs.Preserving.{Preserves, IsRight}
 use Rattle.carol_program.specs.Rules.{Rules, guard_claim}
 use Rattle.carol_program.specs.Variables.{guard_variables}
@@ -137,7 +137,7 @@ module _ (p : Rules) (guard : Claim) where
   own-found own a step w = entry-found (steps_of p.shape) own (place_of p.shape step.cell step.up) step a.entries_are
       (step-place 0 p.shape step.cell step.up w ∙ ap (λ (cell : ℕ). Some (step_of cell step.up)) (omega arith))
 
-  length-own : (own : List Entry) → IsAccord p guard own → length own ≡ ways p.shape
+  length-own : (own : List Entry) → IsAccord p guard own → length own ≡ row_length p.shape
   length-own own a = length-entries (steps_of p.shape) own a.entries_are ∙ length-steps 0 p.shape
 
 -- ---- all guards
@@ -167,7 +167,7 @@ module _ (p : Rules) where
   pub next-guard : AreRules p → {left : List Guard} {number : ℕ} {entries : List Entry} (guard : Guard) (more : List Guard) → Progress left number entries → left ≡ guard ∷ more → IsGuard p.shape (guard_claim guard)
   next-guard rules guard more d e = record {
     few = rules.few_cells;
-    over = all-at (IsFormulaOver (guard_variables (length p.shape))) d.earlier (guard_claim guard) (map guard_claim more) (subst (λ (gs : List Claim). AllByRecursion (IsFormulaOver (guard_variables (length p.shape))) gs) (at-left guard more e d) rules.guards);
+    over = all-at (IsFormulaOver (guard_variables p.shape)) d.earlier (guard_claim guard) (map guard_claim more) (subst (λ (gs : List Claim). AllByRecursion (IsFormulaOver (guard_variables p.shape)) gs) (at-left guard more e d) rules.guards);
   }
 
   pub comes_to : {left : List Guard} {number : ℕ} {entries : List Entry} (guard : Guard) (more : List Guard) → Progress left number entries → left ≡ guard ∷ more → ComesTo p number (guard_claim guard)
@@ -193,13 +193,13 @@ module _ (p : Rules) where
 
   -- ---- the table
 
-  pub length-all : (guards : List Claim) (entries : List Entry) → AreAll p guards entries → length entries ≡ length guards * ways p.shape
+  pub length-all : (guards : List Claim) (entries : List Entry) → AreAll p guards entries → length entries ≡ length guards * row_length p.shape
   length-all [] entries h = omega (arith, ap length h)
   length-all (g ∷ guards) entries h =
       let split = h.1.1
       in omega (arith, ap length split.0, length-append h.0 h.1.0, length-own p g h.0 split.1, length-all guards h.1.0 split.2)
 
-  all-found : (guards : List Claim) (entries : List Entry) → AreAll p guards entries → (number : ℕ) (guard : Claim) (step : Direction) → slice_get guards number ≡ Some guard → HasWay p.shape step.cell step.up → FoundAt p guard entries (number * ways p.shape + place_of p.shape step.cell step.up) step
+  all-found : (guards : List Claim) (entries : List Entry) → AreAll p guards entries → (number : ℕ) (guard : Claim) (step : Direction) → slice_get guards number ≡ Some guard → HasWay p.shape step.cell step.up → FoundAt p guard entries (number * row_length p.shape + place_of p.shape step.cell step.up) step
   all-found [] entries h number guard step at w = cc
   all-found (g ∷ guards) entries h zero guard step at w =
       let split = h.1.1
@@ -208,7 +208,7 @@ module _ (p : Rules) where
       in (
         own.0,
         (
-          ap (λ (es : List Entry). slice_get es (0 * ways p.shape + place_of p.shape step.cell step.up)) split.0 ∙ ap (slice_get (h.0 ++ h.1.0)) (omega arith) ∙ found-left h.0 h.1.0 (place_of p.shape step.cell step.up) own.0 own.1.0,
+          ap (λ (es : List Entry). slice_get es (0 * row_length p.shape + place_of p.shape step.cell step.up)) split.0 ∙ ap (slice_get (h.0 ++ h.1.0)) (omega arith) ∙ found-left h.0 h.1.0 (place_of p.shape step.cell step.up) own.0 own.1.0,
           subst (λ (c : Claim). IsEntry p.shape c step own.0) same own.1.1,
         ),
       )
@@ -218,8 +218,8 @@ module _ (p : Rules) where
       in (
         more.0,
         (
-          ap (λ (es : List Entry). slice_get es (suc number * ways p.shape + place_of p.shape step.cell step.up)) split.0
-              ∙ found-right h.0 h.1.0 (suc number * ways p.shape + place_of p.shape step.cell step.up) (number * ways p.shape + place_of p.shape step.cell step.up) (omega (arith, length-own p g h.0 split.1)) ∙ more.1.0,
+          ap (λ (es : List Entry). slice_get es (suc number * row_length p.shape + place_of p.shape step.cell step.up)) split.0
+              ∙ found-right h.0 h.1.0 (suc number * row_length p.shape + place_of p.shape step.cell step.up) (number * row_length p.shape + place_of p.shape step.cell step.up) (omega (arith, length-own p g h.0 split.1)) ∙ more.1.0,
           more.1.1,
         ),
       )
@@ -237,7 +237,7 @@ module _ (p : Rules) where
     abbrev table : Accords
     table = record { kinds = p.shape; guards = count; entries = entries }
 
-    pub is_right : IsRight p.shape p.guards table
+    pub is_right : IsRight p table
     is_right = record {
       same_kinds = refl;
       same_guards = same;

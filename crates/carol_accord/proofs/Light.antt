@@ -10,8 +10,8 @@ use Rattle.carol_formula.specs.Claim.{Claim, True, False, Le, Eq, Ne, And, Or, N
 use Rattle.carol_formula.specs.Linear.{Linear, IsWithin, difference_of, variable_of, constant_of}
 use Rattle.carol_formula.specs.Weight.{mass, weight}
 use Rattle.carol_formula.proofs.Weights.{weight-sum_of, weight-difference_of, IsWithin-weight}
-use Rattle.carol_renaming.specs.Named.{AllNamed, IsNameable, IsNameableClaim, named_mass, named_weight, named_claim}
-use Rattle.carol_renaming.proofs.Renaming.{weight-named_claim}
+use Rattle.carol_formula.specs.Named.{AllNamed, IsNameable, IsNameableClaim, named_mass, named_weight, named_claim}
+use Rattle.carol_formula.proofs.Renamings.{weight-named_claim}
 use Rattle.carol_program.specs.Variables.{guard_variables, there_variable}
 use Rattle.carol_program.specs.WellFormed.{AreSmall, IsTermOver, nodes}
 use Rattle.carol_decide.specs.Sizes.{nodes_of}
@@ -196,7 +196,7 @@ flags-nodes (kind ∷ kinds) base = omega (arith, with_flag-nodes kind base (fla
 -- ---- the formulas
 
 pub equal_light : (kinds : List CellKind) (guard : Claim) → IsGuard kinds guard → IsLight (equal_claim kinds guard)
-equal_light kinds guard g = (flags-light kinds 0, light_named (λ v. ⊤) equal_name (guard_variables (length kinds)) equal_named guard g.over.terms)
+equal_light kinds guard g = (flags-light kinds 0, light_named (λ v. ⊤) equal_name (guard_variables kinds) equal_named guard g.over.terms)
 
 pub equal_nodes : (kinds : List CellKind) (guard : Claim) → IsGuard kinds guard → nodes (equal_claim kinds guard) ≤ most_formula
 equal_nodes kinds guard g = omega (arith, flags-nodes kinds 0, nodes-named equal_name guard, g.few, g.over.few)
@@ -204,7 +204,7 @@ equal_nodes kinds guard g = omega (arith, flags-nodes kinds 0, nodes-named equal
 pub step_light : (kinds : List CellKind) (guard : Claim) (kind : CellKind) (step : Direction) → IsGuard kinds guard → step.cell < 16 → IsLight (step_claim kinds guard kind step)
 step_light kinds guard kind step g h = (
   (flags-light kinds 0, flags-light kinds 16),
-  (light_guard (guard_variables (length kinds)) guard g.over.terms, light_named (λ v. step.cell < 16) (step_name kind step) (guard_variables (length kinds)) (step_named kind step h) guard g.over.terms),
+  (light_guard (guard_variables kinds) guard g.over.terms, light_named (λ v. step.cell < 16) (step_name kind step) (guard_variables kinds) (step_named kind step h) guard g.over.terms),
 )
 
 pub step_nodes : (kinds : List CellKind) (guard : Claim) (kind : CellKind) (step : Direction) → IsGuard kinds guard → nodes (step_claim kinds guard kind step) ≤ most_formula

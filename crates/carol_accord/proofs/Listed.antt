@@ -2,10 +2,12 @@
 use Rattle.std.proofs.Common.{◌≡◌, ℕ, zero, suc, ◌+◌, ◌<◌, Bool, true, false, List, [], ◌∷◌, ◌++◌, length, arith, refl, ◌∙◌, ap, subst}
 use Rattle.std.specs.Prelude.{Some, slice_get}
 use Rattle.std.specs.List.{AllByRecursion}
+use Rattle.std.proofs.lemmas.Bool.{false≢true}
 use Rattle.carol_store.specs.declared.shape.CellKind.{CellKind}
 use Rattle.carol_store.specs.declared.shape.CellKind.TheVariants.{Counter, Peak, Flag}
 use Rattle.carol_store.specs.declared.direction.Direction.{Direction}
-use Rattle.carol_program.specs.Accords.{GoesWay, HasWay, ways, ways_of, place_of}
+use Rattle.carol_store.specs.Kinds.{can_go, ways}
+use Rattle.carol_program.specs.Accords.{HasWay, row_length, place_of}
 use Rattle.carol_accord.specs.Inferred.{steps_before, steps_from, steps_of, step_of}
 
 -- ---- the list of steps
@@ -20,10 +22,10 @@ steps-ways : (whole left : List CellKind) (base : ℕ) → ((i : ℕ) (up : Bool
 steps-ways whole [] base h = tt
 steps-ways whole (kind ∷ left) base h = own kind (λ up w. subst (λ (v : ℕ). HasWay whole v up) (omega arith) (h zero up w)) (steps-ways whole left (base + 1) (λ i up w. subst (λ (v : ℕ). HasWay whole v up) (omega arith) (h (suc i) up w)))
   where
-    own : (kind : CellKind) → ((up : Bool) → GoesWay kind up → HasWay whole base up) → AllByRecursion (λ d. HasWay whole d.cell d.up) (steps_from (base + 1) left) → AllByRecursion (λ d. HasWay whole d.cell d.up) (steps_before base kind (steps_from (base + 1) left))
-    own Counter k more = (k true tt, (k false tt, more))
-    own Peak k more = (k true tt, more)
-    own Flag k more = (k true tt, more)
+    own : (kind : CellKind) → ((up : Bool) → can_go kind up ≡ true → HasWay whole base up) → AllByRecursion (λ d. HasWay whole d.cell d.up) (steps_from (base + 1) left) → AllByRecursion (λ d. HasWay whole d.cell d.up) (steps_before base kind (steps_from (base + 1) left))
+    own Counter k more = (k true refl, (k false refl, more))
+    own Peak k more = (k true refl, more)
+    own Flag k more = (k true refl, more)
 
 pub all-at : {A : Type 0} (P : A → Type 0) (xs : List A) (y : A) (ys : List A) → AllByRecursion P (xs ++ y ∷ ys) → P y
 all-at P [] y ys h = h.0
@@ -40,16 +42,16 @@ way-within (kind ∷ kinds) (suc cell) up h = omega (arith, way-within kinds cel
 
 -- ---- where a step stands among all
 
-length-before : (cell : ℕ) (kind : CellKind) (more : List Direction) → length (steps_before cell kind more) ≡ ways_of kind + length more
+length-before : (cell : ℕ) (kind : CellKind) (more : List Direction) → length (steps_before cell kind more) ≡ length (ways kind) + length more
 length-before cell Counter more = omega arith
 length-before cell Peak more = omega arith
 length-before cell Flag more = omega arith
 
-pub length-steps : (base : ℕ) (kinds : List CellKind) → length (steps_from base kinds) ≡ ways kinds
+pub length-steps : (base : ℕ) (kinds : List CellKind) → length (steps_from base kinds) ≡ row_length kinds
 length-steps base [] = refl
-length-steps base (kind ∷ kinds) = length-before base kind (steps_from (base + 1) kinds) ∙ ap (λ (n : ℕ). ways_of kind + n) (length-steps (base + 1) kinds)
+length-steps base (kind ∷ kinds) = length-before base kind (steps_from (base + 1) kinds) ∙ ap (λ (n : ℕ). length (ways kind) + n) (length-steps (base + 1) kinds)
 
-after-own : (cell : ℕ) (kind : CellKind) (more : List Direction) (n : ℕ) → slice_get (steps_before cell kind more) (ways_of kind + n) ≡ slice_get more n
+after-own : (cell : ℕ) (kind : CellKind) (more : List Direction) (n : ℕ) → slice_get (steps_before cell kind more) (length (ways kind) + n) ≡ slice_get more n
 after-own cell Counter more n = ap (slice_get (steps_before cell Counter more)) (two n)
   where
     two : (n : ℕ) → 2 + n ≡ suc (suc n)
@@ -63,13 +65,13 @@ after-own cell Flag more n = ap (slice_get (steps_before cell Flag more)) (one n
     one : (n : ℕ) → 1 + n ≡ suc n
     one n = omega arith
 
-first-own : (cell : ℕ) (kind : CellKind) (up : Bool) (kinds : List CellKind) (more : List Direction) → GoesWay kind up → slice_get (steps_before cell kind more) (place_of (kind ∷ kinds) zero up) ≡ Some (step_of cell up)
+first-own : (cell : ℕ) (kind : CellKind) (up : Bool) (kinds : List CellKind) (more : List Direction) → can_go kind up ≡ true → slice_get (steps_before cell kind more) (place_of (kind ∷ kinds) zero up) ≡ Some (step_of cell up)
 first-own cell Counter true kinds more h = refl
 first-own cell Counter false kinds more h = refl
 first-own cell Peak true kinds more h = refl
-first-own cell Peak false kinds more h = absurd h
+first-own cell Peak false kinds more h = absurd (false≢true h)
 first-own cell Flag true kinds more h = refl
-first-own cell Flag false kinds more h = absurd h
+first-own cell Flag false kinds more h = absurd (false≢true h)
 
 pub step-place : (base : ℕ) (kinds : List CellKind) (cell : ℕ) (up : Bool) → HasWay kinds cell up → slice_get (steps_from base kinds) (place_of kinds cell up) ≡ Some (step_of (base + cell) up)
 step-place base [] cell up h = absurd h

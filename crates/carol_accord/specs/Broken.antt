@@ -7,19 +7,14 @@ use Rattle.carol_store.specs.Stores.{IsStore}
 use Rattle.carol_store.specs.Directions.{unit_step}
 use Rattle.carol_formula.specs.Claim.{Claim, truth}
 use Rattle.carol_program.specs.Preserving.{Guards}
-use Rattle.carol_program.specs.Variables.{cell_variable, there_variable, number_in_two}
-
--- the values of the cells whose variables begin with this one
-abbrev pub cells_from : List CellKind → ℕ → (ℕ → ℤ) → List CellValue
-cells_from [] base f = []
-cells_from (kind ∷ kinds) base f = f base ∷ cells_from kinds (base + 1) f
+use Rattle.carol_program.specs.Variables.{cell_variable, there_variable, number_in_two, store_at}
 
 -- the store that is read, and the global one
 abbrev pub here_of : List CellKind → (ℕ → ℤ) → List CellValue
-here_of kinds f = cells_from kinds (cell_variable 0) f
+here_of kinds f = store_at kinds (cell_variable 0) f
 
 abbrev pub there_of : List CellKind → (ℕ → ℤ) → List CellValue
-there_of kinds f = cells_from kinds (there_variable 0) f
+there_of kinds f = store_at kinds (there_variable 0) f
 
 -- the guard is false where both stores are the one that is read
 pub record BreaksEqual (kinds : List CellKind) (guard : Claim) (f : ℕ → ℤ) : Type 0 where

@@ -5,7 +5,7 @@ use Rattle.carol_store.specs.declared.shape.CellKind.TheVariants.{Counter, Peak,
 use Rattle.carol_store.specs.declared.direction.Direction.{Direction}
 use Rattle.carol_formula.specs.Claim.{Claim, True, Le, And, Not}
 use Rattle.carol_formula.specs.Linear.{Linear, constant_of, variable_of, sum_of, difference_of}
-use Rattle.carol_renaming.specs.Named.{named_claim}
+use Rattle.carol_formula.specs.Named.{named_claim}
 use Rattle.carol_program.specs.Variables.{cell_variable, there_variable}
 
 -- ---- flags

@@ -1,9 +1,9 @@
 -- What `infer` answers.
-use Rattle.std.specs.Prelude.{◌≡◌, ◌↔◌, ◌⊎◌, ℕ, ◌+◌, Bool, true, false, List, [], ◌∷◌, ◌++◌, length, ℤ, Some, slice_get}
+use Rattle.std.specs.Prelude.{◌≡◌, ◌↔◌, ◌⊎◌, ℕ, ◌+◌, Bool, true, false, List, [], ◌∷◌, ◌++◌, length, map, ℤ, Some, slice_get}
 use Rattle.std.specs.List.{AllByRecursion}
 use Rattle.carol_store.specs.declared.shape.CellKind.{CellKind}
-use Rattle.carol_store.specs.declared.shape.CellKind.TheVariants.{Counter, Peak, Flag}
 use Rattle.carol_store.specs.declared.direction.Direction.{Direction}
+use Rattle.carol_store.specs.Kinds.{ways}
 use Rattle.carol_formula.specs.Claim.{Claim, truth}
 use Rattle.carol_formula.specs.Numbers.{number_at}
 use Rattle.carol_decide.specs.declared.answer.Why.{Why}
@@ -25,11 +25,9 @@ use Rattle.carol_accord.specs.Broken.{BreaksEqual, BreaksStep}
 abbrev pub step_of : ℕ → Bool → Direction
 step_of cell up = record { cell = cell; up = up }
 
--- the steps of one cell, up before down, before others
+-- the steps of one cell before others
 abbrev pub steps_before : ℕ → CellKind → List Direction → List Direction
-steps_before cell Counter more = step_of cell true ∷ step_of cell false ∷ more
-steps_before cell Peak more = step_of cell true ∷ more
-steps_before cell Flag more = step_of cell true ∷ more
+steps_before cell kind more = map (step_of cell) (ways kind) ++ more
 
 abbrev pub steps_from : ℕ → List CellKind → List Direction
 steps_from cell [] = []

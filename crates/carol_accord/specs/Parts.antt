@@ -28,7 +28,7 @@ use Rattle.carol_accord.specs.Inferred.{IsReason, ComesToStep, step_of, steps_of
 -- a guard of a program with cells of these kinds
 pub record IsGuard (kinds : List CellKind) (guard : Claim) : Type 0 where
   pub few : length kinds ≤ most_cells
-  pub over : IsFormulaOver (guard_variables (length kinds)) guard
+  pub over : IsFormulaOver (guard_variables kinds) guard
 
 -- ---- one formula
 

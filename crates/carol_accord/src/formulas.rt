@@ -5,8 +5,7 @@ ghost use Rattle.carol_accord.specs.Formed.{is_flag, with_flag, flags, equal_cla
 ghost use Rattle.carol_accord.specs.Parts.{IsGuard};
 
 use crate::names::{EqualNames, StepNames};
-use carol_formula::{Boxed, Formula, Term, TermError, Variable};
-use carol_renaming::renamed;
+use carol_formula::{Boxed, Formula, Term, TermError, Variable, renamed};
 use carol_store::{CellKind, Direction};
 use std::alloc::{AllocError, Global};
 

@@ -4,6 +4,8 @@
 //!
 //! Each question is a formula that is true of exactly the stores at which the answer is no. So a
 //! refutation is a yes, and a valuation is a no that shows two stores.
+//!
+//! Layer: checker. Called by `carol_accept`.
 #![tactic(auto)]
 
 ghost use Rattle.std.specs.Prelude.{IfOk, IfErr};
@@ -34,7 +36,7 @@ use std::alloc::Global;
 /// is well formed. The table has an entry for each guard and step.
 pub fn infer(alloc: Global, program: &Program) -> Result<AccordTable, AccordError>
     requires { IsWellFormed (rules_in program.now) program.now.names }
-    ensures right { let p = rules_in program.now in IfOk result (IsRight p.shape p.guards) }
+    ensures right { let p = rules_in program.now in IfOk result (IsRight p) }
     ensures reflexive { let p = rules_in program.now
         in IfOk result (λ _. AllByRecursion (IsReflexive p) p.guards) }
     ensures witnesses { let p = rules_in program.now

@@ -2,8 +2,7 @@ ghost use Rattle.std.specs.Prelude.{◌≡◌, IfOk};
 ghost use Rattle.carol_accord.specs.Formed.{stepped_name};
 
 use crate::formulas::narrow;
-use carol_formula::{Term, Variable};
-use carol_renaming::Naming;
+use carol_formula::{Naming, Term, Variable};
 use carol_store::{CellKind, Direction};
 use std::alloc::{AllocError, Global};
 

@@ -1,23 +1,22 @@
 ghost use Rattle.std.specs.Prelude.{◌≡◌, ◌++◌, ◌≤◌, [], length, IfOk, OnOk};
 ghost use Rattle.carol_accord.specs.Inferred.{steps_before, steps_of};
 
-use carol_store::{CellKind, Direction};
+use carol_store::{CellKind, Direction, MOST_CELLS};
 use std::alloc::{AllocError, Global};
 
-// Appends the steps of a cell of this kind, up before down.
+// Appends the steps of a cell of this kind.
 fn push_steps(steps: &mut Vec<Direction>, cell: u32, kind: CellKind) -> Result<(), AllocError>
     ensures { OnOk result (steps.new.items ≡ steps.old.items ++ steps_before cell kind []) }
 {
-    steps.push(Direction { cell, up: true })?;
-    if matches!(kind, CellKind::Counter) {
-        steps.push(Direction { cell, up: false })?;
+    for up in kind.ways() {
+        steps.push(Direction { cell, up: *up })?;
     }
     Ok(())
 }
 
 /// All steps of cells of these kinds, by cell, up before down.
 pub(crate) fn all_steps(alloc: Global, kinds: &[CellKind]) -> Result<Vec<Direction>, AllocError>
-    requires { length kinds.now ≤ 16 }
+    requires { length kinds.now ≤ MOST_CELLS }
     ensures { IfOk result (λ steps. steps.items ≡ steps_of kinds.now) }
 {
     let mut steps = Vec::new(alloc);

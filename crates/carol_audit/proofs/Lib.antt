@@ -1,1 +1,13 @@
 pub mod Audits
+pub mod Cutting
+pub mod Feeds
+pub mod Fronts
+pub mod Parting
+pub mod Asked
+pub mod Effects
+pub mod Marked
+pub mod NumbersFit
+pub mod Comparing
+pub mod Rulings
+pub mod Single
+pub mod OneFinding

@@ -2,9 +2,9 @@
 use Rattle.std.proofs.Common.{ℕ, zero, suc, ◌≡◌, ◌<◌, ◌≤◌, List, [], ◌∷◌, ◌++◌, length, take, get_or, map, refl, sym, ◌∙◌, ap, arith}
 use Rattle.std.specs.Prelude.{slice_set}
 use Rattle.std.specs.Borrow.{Bor}
-use Rattle.carol_cert_rows.specs.declared.place.Item.{Item}
-use Rattle.carol_cert_rows.specs.declared.place.Item.TheVariants.{Whole, Negative, Positive, AtMost, AtLeast}
-use Rattle.carol_cert_rows.specs.Place.{IsItem, AreItems}
+use Rattle.carol_cert.specs.declared.place.Item.{Item}
+use Rattle.carol_cert.specs.declared.place.Item.TheVariants.{Whole, Negative, Positive, AtMost, AtLeast}
+use Rattle.carol_cert.specs.Place.{IsItem, AreItems}
 use Rattle.carol_cert.specs.declared.tree.Refutation.{Refutation}
 use Rattle.carol_cert.specs.Proof.{Proof, proof_of}
 use Rattle.carol_cert.specs.Left.{bound_of, IsSide, AreSides}

@@ -10,7 +10,7 @@ use Rattle.carol_formula.specs.Value.{sum_at, value_at}
 use Rattle.carol_formula.specs.Claim.{Claim, Ne, And, Or, truth}
 use Rattle.carol_formula.proofs.Claims.{is_at_most_zero_from}
 use Rattle.carol_formula.proofs.Integers.{one-mul, minus_one-mul, mul_assoc}
-use Rattle.carol_cert_rows.specs.Cases.{below_zero, above_zero, at_most_number, at_least_number}
+use Rattle.carol_cert.specs.Cases.{below_zero, above_zero, at_most_number, at_least_number}
 
 -- the claim is true
 abbrev pub IsTrueAt : (ℕ → ℤ) → Claim → Type 0

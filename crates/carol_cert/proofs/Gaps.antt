@@ -3,7 +3,7 @@ use Rattle.std.proofs.Common.{◌≡◌, Bool, true, false, List, [], ◌∷◌,
 use Rattle.std.specs.Prelude.{Option, Some, None, MatchOption, slice_set, IsTrue, not, ◌||◌, ◌↔◌, pos, ◌+ℤ◌}
 use Rattle.std.proofs.lemmas.Bool.{false≢true}
 use Rattle.carol_formula.specs.Claim.{Claim}
-use Rattle.carol_cert_rows.specs.Cases.{at_most_number, at_least_number}
+use Rattle.carol_cert.specs.Cases.{at_most_number, at_least_number}
 use Rattle.carol_cert.specs.Proof.{Proof, Absurd, Part, Split, Branch, Rows, Unclosed}
 use Rattle.carol_cert.specs.Refutes.{parts_at, sides_at, Refutes}
 use Rattle.carol_cert.specs.Counts.{has_gap, GoesRight}

@@ -4,10 +4,10 @@ use Rattle.std.specs.Prelude.{ℤ, pos, ◌+ℤ◌}
 use Rattle.std.specs.Borrow.{Bor}
 use Rattle.std.proofs.lemmas.List.{append_assoc, append-nil, map-append}
 use Rattle.carol_formula.specs.Claim.{Claim}
-use Rattle.carol_cert_rows.specs.Cases.{at_most_number, at_least_number}
-use Rattle.carol_cert_rows.specs.Place.{claim_of_item}
-use Rattle.carol_cert_rows.specs.declared.place.Item.{Item}
-use Rattle.carol_cert_rows.specs.declared.place.Item.TheVariants.{Whole, Negative, Positive, AtMost, AtLeast}
+use Rattle.carol_cert.specs.Cases.{at_most_number, at_least_number}
+use Rattle.carol_cert.specs.Place.{claim_of_item}
+use Rattle.carol_cert.specs.declared.place.Item.{Item}
+use Rattle.carol_cert.specs.declared.place.Item.TheVariants.{Whole, Negative, Positive, AtMost, AtLeast}
 use Rattle.carol_cert.specs.Proof.{Proof}
 use Rattle.carol_cert.specs.Left.{bound_of, claim_of_branch, claims_below, waiting, waiting_at}
 

@@ -1,3 +1,10 @@
+pub mod ColumnRows
+pub mod Gets
+pub mod Places
+pub mod Chains
+pub mod Products
+pub mod Sums
+pub mod Vanishing
 pub mod SumsBelow
 pub mod RowValues
 pub mod RowsHold

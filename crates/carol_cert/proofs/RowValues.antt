@@ -7,7 +7,7 @@ use Rattle.carol_formula.specs.Linear.{Linear}
 use Rattle.carol_formula.specs.Value.{value_at}
 use Rattle.carol_formula.proofs.Integers.{add-mul, mul-add, mul_assoc, neg-mul, minus_one-mul}
 use Rattle.carol_formula.specs.Division.{floor_of, Divides}
-use Rattle.carol_cert_rows.specs.PlainRow.{PlainRow, row_of, negated, multiple, sum_of_rows, quotient, IsAbsurd}
+use Rattle.carol_cert.specs.PlainRow.{PlainRow, row_of, negated, multiple, sum_of_rows, quotient, IsAbsurd}
 use Rattle.carol_formula.proofs.Division.{mul-floor_of, below_floor_of}
 use Rattle.carol_cert.proofs.SumsBelow.{sum_below, sum_below-same, sum_below-zero, sum_below-add, sum_below-mul, top, sum_below-coefficients}
 

@@ -5,10 +5,10 @@ use Rattle.std.proofs.Math.IntN.{zero-*ℤ}
 use Rattle.std.proofs.lemmas.Int.{ints}
 use Rattle.carol_formula.specs.Value.{value_at}
 use Rattle.carol_formula.specs.Claim.{Claim, True, False, Le, Eq, Ne, And, Or, Not}
-use Rattle.carol_cert_rows.specs.PlainRow.{PlainRow, row_of, negated, zero_row, last_row}
-use Rattle.carol_cert_rows.specs.declared.step.RowStep.{RowStep}
-use Rattle.carol_cert_rows.specs.declared.step.RowStep.TheVariants.{Given, Reversed, Combine, Tighten}
-use Rattle.carol_cert_rows.specs.Steps.{IsRow, IsEquation, term_of, row_at, made, IsAllowed, rows_made, AreAllowed, Closes}
+use Rattle.carol_cert.specs.PlainRow.{PlainRow, row_of, negated, zero_row, last_row}
+use Rattle.carol_cert.specs.declared.step.RowStep.{RowStep}
+use Rattle.carol_cert.specs.declared.step.RowStep.TheVariants.{Given, Reversed, Combine, Tighten}
+use Rattle.carol_cert.specs.Steps.{IsRow, IsEquation, term_of, row_at, made, IsAllowed, rows_made, AreAllowed, Closes}
 use Rattle.carol_cert.proofs.SumsBelow.{top, sum_below-zero}
 use Rattle.carol_cert.proofs.RowValues.{Holds, row_value-row_of, row_value-negated, holds-combined, holds-quotient, absurd_fails}
 use Rattle.carol_formula.proofs.Claims.{at_most_zero, zero_from}

@@ -4,7 +4,7 @@ use Rattle.std.specs.Prelude.{Option, Some, None, MatchOption, slice_get, slice_
 use Rattle.std.specs.Option.{option_and_then}
 use Rattle.std.proofs.lemmas.Bool.{false≢true}
 use Rattle.carol_formula.specs.Claim.{Claim, True, False, Le, Eq, Ne, And, Or, Not, truth}
-use Rattle.carol_cert_rows.specs.Cases.{at_most_number, at_least_number}
+use Rattle.carol_cert.specs.Cases.{at_most_number, at_least_number}
 use Rattle.carol_cert.specs.Proof.{Proof, Absurd, Part, Split, Branch, Rows, Unclosed}
 use Rattle.carol_cert.specs.Refutes.{parts_of, sides_of, Refutes, IsNeverTrue, AreNeverTrue}
 use Rattle.carol_cert.proofs.ClaimsHold.{IsTrueAt, true_at, true_more, true_replaced, true_parts, true_side, true_sign, true_bound}

@@ -3,7 +3,7 @@ use Rattle.std.proofs.Common.{ℕ, ◌≡◌, ◌<◌, ◌≤◌, ◌+◌, ◌-�
 use Rattle.std.specs.Prelude.{◌||◌, ◌↔◌, ℤ, pos, ◌+ℤ◌}
 use Rattle.carol_formula.specs.Bounds.{IsBelow, value_limit}
 use Rattle.carol_formula.specs.Claim.{Claim}
-use Rattle.carol_cert_rows.specs.Cases.{at_most_number, at_least_number}
+use Rattle.carol_cert.specs.Cases.{at_most_number, at_least_number}
 use Rattle.carol_cert.specs.declared.checker.Walked.{Walked}
 use Rattle.carol_cert.specs.Proof.{Proof, Absurd, Part, Split, Branch, Rows, Unclosed}
 use Rattle.carol_cert.specs.Counts.{turns_of, has_gap, GoesRight}

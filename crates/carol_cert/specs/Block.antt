@@ -1,7 +1,7 @@
 -- The branches that a block holds.
 use Rattle.std.specs.Prelude.{ℕ, suc, ◌≡◌, ◌≤◌, length, List, [], ◌∷◌}
 use Rattle.std.specs.Borrow.{Bor}
-use Rattle.carol_cert_rows.specs.declared.place.Item.{Item}
+use Rattle.carol_cert.specs.declared.place.Item.{Item}
 use Rattle.carol_cert.specs.declared.tree.Refutation.{Refutation}
 use Rattle.carol_cert.specs.declared.block.Block.{Block}
 use Rattle.carol_cert.specs.declared.block.TheConstants.{BRANCHES}

@@ -2,8 +2,8 @@
 use Rattle.std.specs.Prelude.{ℕ, ◌+◌, ◌≡◌, Bool, true, false, ◌||◌, List, [], ◌∷◌, ◌++◌, Some, MatchOption, slice_get, slice_set, pos, ◌+ℤ◌, IsTrue}
 use Rattle.carol_formula.specs.Bounds.{IsBelow, value_limit}
 use Rattle.carol_formula.specs.Claim.{Claim, False}
-use Rattle.carol_cert_rows.specs.Cases.{at_most_number, at_least_number}
-use Rattle.carol_cert_rows.specs.Steps.{Closes}
+use Rattle.carol_cert.specs.Cases.{at_most_number, at_least_number}
+use Rattle.carol_cert.specs.Steps.{Closes}
 use Rattle.carol_cert.specs.Proof.{Proof, Absurd, Part, Split, Branch, Rows, Unclosed}
 use Rattle.carol_cert.specs.Refutes.{parts_at, sides_at}
 

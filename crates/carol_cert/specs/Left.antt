@@ -2,10 +2,10 @@
 use Rattle.std.specs.Prelude.{ℕ, ◌+◌, Bool, false, ◌||◌, List, [], ◌∷◌, ◌++◌, map, pos, ◌+ℤ◌}
 use Rattle.carol_formula.specs.Bounds.{IsBelow, value_limit}
 use Rattle.carol_formula.specs.Claim.{Claim}
-use Rattle.carol_cert_rows.specs.Cases.{at_least_number}
-use Rattle.carol_cert_rows.specs.Place.{claim_of_item}
-use Rattle.carol_cert_rows.specs.declared.place.Item.{Item}
-use Rattle.carol_cert_rows.specs.declared.place.Item.TheVariants.{Whole, Negative, Positive, AtMost, AtLeast}
+use Rattle.carol_cert.specs.Cases.{at_least_number}
+use Rattle.carol_cert.specs.Place.{claim_of_item}
+use Rattle.carol_cert.specs.declared.place.Item.{Item}
+use Rattle.carol_cert.specs.declared.place.Item.TheVariants.{Whole, Negative, Positive, AtMost, AtLeast}
 use Rattle.carol_cert.specs.Proof.{Proof}
 use Rattle.carol_cert.specs.Counts.{turns_of, has_gap, GoesRight}
 

@@ -1,3 +1,9 @@
+pub mod PlainRow
+pub mod Cases
+pub mod Steps
+pub mod Place
+pub mod Columns
+pub mod Numbers
 pub mod Proof
 pub mod Refutes
 pub mod Counts

@@ -1,6 +1,6 @@
 -- Refutations as plain data.
 use Rattle.std.specs.Prelude.{ℕ, ◌+◌, ℤ, List}
-use Rattle.carol_cert_rows.specs.declared.step.RowStep.{RowStep}
+use Rattle.carol_cert.specs.declared.step.RowStep.{RowStep}
 use Rattle.carol_cert.specs.declared.tree.Refutation.{Refutation, fold-Refutation}
 use Rattle.carol_cert.specs.declared.tree.Refutation.TheOpen.{Refutation-F}
 

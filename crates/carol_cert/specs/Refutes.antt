@@ -3,8 +3,8 @@ use Rattle.std.specs.Prelude.{ℕ, ◌≡◌, false, List, [], ◌∷◌, ◌++�
 use Rattle.std.specs.Option.{option_and_then}
 use Rattle.carol_formula.specs.Bounds.{IsBelow, value_limit}
 use Rattle.carol_formula.specs.Claim.{Claim, False, Ne, And, Or, truth}
-use Rattle.carol_cert_rows.specs.Cases.{below_zero, above_zero, at_most_number, at_least_number}
-use Rattle.carol_cert_rows.specs.Steps.{Closes}
+use Rattle.carol_cert.specs.Cases.{below_zero, above_zero, at_most_number, at_least_number}
+use Rattle.carol_cert.specs.Steps.{Closes}
 use Rattle.carol_cert.specs.Proof.{Proof, Absurd, Part, Split, Branch, Rows, Unclosed}
 
 -- the left and the right part of an `And`

@@ -1,11 +1,11 @@
 ghost use Rattle.std.specs.Prelude.{◌≡◌, ◌<◌, ◌≤◌, ◌↔◌, ◌+ℤ◌, pos, List, [], ◌∷◌, ◌++◌, map, MatchOption, IsTrue};
 ghost use Rattle.carol_formula.specs.Claim.{Claim};
-ghost use Rattle.carol_cert_rows.specs.Place.{AreItems};
+ghost use Rattle.carol_cert.specs.Place.{AreItems};
 ghost use Rattle.carol_cert.specs.Proof.{proof_of};
 ghost use Rattle.carol_cert.specs.Left.{bound_of, claims_below, waiting, IsSide};
 
+use crate::Item;
 use crate::tree::Refutation;
-use carol_cert_rows::Item;
 
 /// How many branches a block holds.
 pub const BRANCHES: usize = 16;

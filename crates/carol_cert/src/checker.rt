@@ -3,7 +3,7 @@ ghost use Rattle.std.specs.Option.{option_map};
 ghost use Rattle.carol_formula.specs.Bounds.{IsBelow, value_limit};
 ghost use Rattle.carol_formula.specs.Claim.{Claim};
 ghost use Rattle.carol_formula.specs.Tree.{claim_of};
-ghost use Rattle.carol_cert_rows.specs.Place.{claims_at, claim_of_item, IsItem, IsPlace};
+ghost use Rattle.carol_cert.specs.Place.{claims_at, claim_of_item, IsItem, IsPlace};
 ghost use Rattle.carol_cert.specs.Proof.{Absurd, Part, Split, Branch, Rows, proof_of};
 ghost use Rattle.carol_cert.specs.Refutes.{parts_at, sides_at, Refutes, IsNeverTrue, AreNeverTrue};
 ghost use Rattle.carol_cert.specs.Counts.{turns_of, GoesRight, IsUnfinished};
@@ -11,7 +11,7 @@ ghost use Rattle.carol_cert.specs.Walked.{counted, walked};
 
 use crate::block::Block;
 use crate::tree::Refutation;
-use carol_cert_rows::{Item, Place, RowStep, leaf_closes};
+use crate::{Item, Place, RowStep, leaf_closes};
 use carol_formula::{Formula, VALUE_LIMIT, Variable, is_below, sum_within};
 use std::slice;
 

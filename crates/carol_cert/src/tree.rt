@@ -1,7 +1,7 @@
 ghost use Rattle.std.specs.Prelude.{◌≡◌, ◌+◌, ◌<◌, ◌≤◌, ◌↔◌, IsTrue};
 ghost use Rattle.carol_cert.specs.Proof.{rank_of};
 
-use carol_cert_rows::StepList;
+use crate::StepList;
 use carol_formula::{Boxed, Variable};
 
 /// A tree that shows that the formulas of a list are never all true at once. The list grows and

@@ -2,7 +2,7 @@
 use Rattle.std.proofs.Common.{◌≡◌, ℕ, ◌+◌, ◌<◌, ◌≤◌, List, [], ◌∷◌, ◌++◌, sym, ◌∙◌, ap, arith, append_assoc}
 use Rattle.std.specs.Prelude.{ℤ}
 use Rattle.std.specs.Borrow.{Bor}
-use Rattle.carol_cert_rows.specs.declared.step.RowStep.{RowStep}
+use Rattle.carol_cert.specs.declared.step.RowStep.{RowStep}
 use Rattle.carol_cert.specs.Proof.{Proof, Absurd, Part, Split, Branch, Rows, Unclosed, proof_at, proof_of, rank_at, rank_of}
 use Rattle.carol_cert.specs.Counts.{turns_of}
 use Rattle.carol_cert.specs.declared.tree.Refutation.{Refutation, fold-roll-Refutation}

@@ -8,12 +8,12 @@ use Rattle.carol_formula.specs.Bounds.{IsBelow, row_limit, term_limit}
 use Rattle.carol_formula.specs.Linear.{Linear, IsTerm, IsWithin, AllBelow, AscendsFrom, NoneZero, times, normal_of, scaled, sum_of, difference_of, constant_of}
 use Rattle.carol_formula.specs.Claim.{Claim, True, False, Le, Eq, Ne, And, Or, Not}
 use Rattle.carol_formula.proofs.Products.{normal_of-normal}
-use Rattle.carol_cert_rows.specs.Cases.{below_zero, above_zero}
-use Rattle.carol_cert_rows.specs.declared.step.RowStep.{RowStep}
+use Rattle.carol_cert.specs.Cases.{below_zero, above_zero}
+use Rattle.carol_cert.specs.declared.step.RowStep.{RowStep}
 use Rattle.carol_difference.specs.Rows.{AreDifference, IsDifference, IsNarrow}
-use Rattle.carol_linear_stage.specs.Due.{rows_at}
-use Rattle.carol_linear_arena.specs.Entries.{terms_of}
-use Rattle.carol_linear_leaf.specs.Names.{AreNamed}
+use Rattle.carol_elimination.specs.Due.{rows_at}
+use Rattle.carol_elimination.specs.Entries.{terms_of}
+use Rattle.carol_linear.specs.Names.{AreNamed}
 use Rattle.carol_decide.proofs.Naming.{named_le, named_eq, named_reversed}
 use Rattle.carol_decide.specs.Sizes.{AreOfDifferences, IsReady}
 use Rattle.carol_decide.specs.Piece.{claim_of_piece, claims_in}

@@ -1,13 +1,13 @@
 -- Trees that are put together under what was taken apart.
 use Rattle.std.proofs.Common.{◌≡◌, ℕ, ◌+◌, ◌≤◌, Bool, true, false, List, [], ◌∷◌, ◌++◌, refl, sym, subst, arith}
 use Rattle.std.specs.Prelude.{Option, Some, None, MatchOption, slice_get, slice_set, IsTrue, ◌||◌, pos, ◌+ℤ◌}
-use Rattle.carol_cert_rows.specs.Cases.{at_most_number, at_least_number}
+use Rattle.carol_cert.specs.Cases.{at_most_number, at_least_number}
 use Rattle.std.proofs.lemmas.Bool.{false≢true}
 use Rattle.carol_formula.specs.Claim.{Claim}
 use Rattle.carol_cert.specs.Proof.{Proof, Absurd, Part, Split, Branch, Rows, Unclosed}
 use Rattle.carol_cert.specs.Refutes.{sides_of, parts_at, sides_at, Refutes}
 use Rattle.carol_cert.specs.Counts.{turns_of, has_gap, GoesRight}
-use Rattle.carol_linear_stage.specs.Due.{BranchesAreDue}
+use Rattle.carol_elimination.specs.Due.{BranchesAreDue}
 use Rattle.carol_decide.specs.Sizes.{OfDifferences, AreOfDifferences}
 use Rattle.carol_decide.specs.Finished.{IsFinished, IsOpen}
 use Rattle.carol_decide.specs.Frames.{TakesParts, TakesLow, TakesHigh}

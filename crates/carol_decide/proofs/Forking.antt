@@ -7,7 +7,7 @@ use Rattle.carol_formula.specs.Bounds.{IsBelow, narrow_limit, row_limit}
 use Rattle.carol_formula.specs.Linear.{Linear, IsWithin, AllBelow, times}
 use Rattle.carol_formula.specs.Claim.{Claim, True, False, Le, Eq, Ne, And, Or, Not, HasNoNot, ClaimWithin, cases_of}
 use Rattle.carol_cert.specs.Refutes.{parts_of, sides_of}
-use Rattle.carol_cert_rows.specs.Cases.{below_zero, above_zero}
+use Rattle.carol_cert.specs.Cases.{below_zero, above_zero}
 use Rattle.carol_difference.specs.Rows.{IsUnit, AreOpposite, AreDifference}
 use Rattle.carol_decide.specs.Sizes.{nodes_of, weight_of, OfDifferences, IsReady}
 use Rattle.carol_decide.specs.Makes.{Makes}

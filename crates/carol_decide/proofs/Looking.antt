@@ -4,7 +4,7 @@ use Rattle.std.specs.Prelude.{Some}
 use Rattle.std.specs.Option.{option_map}
 use Rattle.std.proofs.lemmas.Option.{slice_get-map, slice_get-get_or}
 use Rattle.carol_formula.specs.Claim.{Claim, True, False, Le, Eq, Ne, And, Or, Not}
-use Rattle.carol_linear_stage.specs.Due.{AreRows}
+use Rattle.carol_elimination.specs.Due.{AreRows}
 use Rattle.carol_decide.specs.Sizes.{IsReady, AreReady}
 use Rattle.carol_decide.specs.Piece.{claim_of_piece, claims_in}
 use Rattle.carol_decide.specs.Frames.{StandsAt}

@@ -12,11 +12,11 @@ use Rattle.carol_formula.specs.declared.term.Row.{Row}
 use Rattle.carol_formula.proofs.Claims.{at_most_zero, is_at_most_zero_from}
 use Rattle.carol_formula.proofs.Integers.{minus_one-mul, mul_assoc}
 use Rattle.carol_formula.proofs.Sums.{sum_at-times, value_at-scaled}
-use Rattle.carol_cert_rows.specs.Cases.{below_zero, above_zero}
+use Rattle.carol_cert.specs.Cases.{below_zero, above_zero}
 use Rattle.carol_difference.specs.Decision.{IsMet as IsMetRow}
-use Rattle.carol_linear_stage.specs.Due.{rows_at, AreRows}
-use Rattle.carol_linear_arena.specs.Entries.{terms_of}
-use Rattle.carol_linear_values.specs.Choosing.{IsMet, AreMet}
+use Rattle.carol_elimination.specs.Due.{rows_at, AreRows}
+use Rattle.carol_elimination.specs.Entries.{terms_of}
+use Rattle.carol_elimination.specs.Choosing.{IsMet, AreMet}
 use Rattle.carol_decide.specs.Makes.{Makes, MakesAll}
 
 -- ---- the whole formula

@@ -5,11 +5,11 @@ use Rattle.std.proofs.Math.Path.{fun_ext}
 use Rattle.std.proofs.lemmas.Int.{ints}
 use Rattle.carol_formula.specs.Linear.{Linear, coefficient_of, scaled}
 use Rattle.carol_formula.specs.Claim.{Claim, Le, Eq}
-use Rattle.carol_cert_rows.specs.PlainRow.{row_of, negated}
-use Rattle.carol_cert_rows.specs.Steps.{IsRow, IsEquation, term_of}
-use Rattle.carol_cert_rows.specs.declared.step.RowStep.TheVariants.{Given, Reversed}
-use Rattle.carol_linear_leaf.specs.Names.{IsNamed}
-use Rattle.carol_linear_stage.proofs.Closing.{row_of-scaled}
+use Rattle.carol_cert.specs.PlainRow.{row_of, negated}
+use Rattle.carol_cert.specs.Steps.{IsRow, IsEquation, term_of}
+use Rattle.carol_cert.specs.declared.step.RowStep.TheVariants.{Given, Reversed}
+use Rattle.carol_linear.specs.Names.{IsNamed}
+use Rattle.carol_elimination.proofs.Closing.{row_of-scaled}
 
 pub named_le : (claims : List Claim) (at : ℕ) (t : Linear) → slice_get claims at ≡ Some (Le t) → IsNamed claims (Given at) t
 named_le claims at t e = (subst IsRow (sym e) tt, ap (λ o. row_of (term_of o)) (sym e))

@@ -10,14 +10,14 @@ use Rattle.carol_cert.specs.declared.tree.Refutation.{fold-roll-Refutation}
 use Rattle.carol_cert.specs.declared.tree.Refutation.TheOpen.{Refutation-F}
 use Rattle.carol_cert.specs.declared.tree.Refutation.TheVariants as shape
 use Rattle.carol_cert.specs.Counts.{turns_of}
-use Rattle.carol_cert_rows.specs.Steps.{Closes}
-use Rattle.carol_cert_rows.specs.declared.step.RowStep.{RowStep}
+use Rattle.carol_cert.specs.Steps.{Closes}
+use Rattle.carol_cert.specs.declared.step.RowStep.{RowStep}
 use Rattle.carol_difference.specs.Rows.{IsDifference, claims_of}
 use Rattle.carol_difference.specs.Decision.{IsMet as IsMetRow}
-use Rattle.carol_linear_stage.specs.Due.{rows_at, AreRows}
-use Rattle.carol_linear_arena.specs.Entries.{terms_of}
-use Rattle.carol_linear_leaf.specs.Names.{AreNamed}
-use Rattle.carol_linear_values.specs.Choosing.{AreMet}
+use Rattle.carol_elimination.specs.Due.{rows_at, AreRows}
+use Rattle.carol_elimination.specs.Entries.{terms_of}
+use Rattle.carol_linear.specs.Names.{AreNamed}
+use Rattle.carol_elimination.specs.Choosing.{AreMet}
 use Rattle.carol_linear.specs.Answer.{IsRefuted, IsSpent, IsWide, IsFar, IsAnswer}
 use Rattle.carol_linear.specs.declared.answer.RowsAnswer.{RowsAnswer}
 use Rattle.carol_linear.specs.declared.answer.Wide.{Wide as WideReason}

@@ -5,7 +5,7 @@ use Rattle.std.specs.Option.{option_and_then}
 use Rattle.std.proofs.Math.Nat.{mul_assoc, mul_comm, mul-pos, add-mul}
 use Rattle.carol_formula.specs.Claim.{Claim, cases_of}
 use Rattle.carol_cert.specs.Refutes.{parts_of, sides_of, parts_at, sides_at}
-use Rattle.carol_linear_stage.specs.Due.{AreRows}
+use Rattle.carol_elimination.specs.Due.{AreRows}
 use Rattle.carol_decide.specs.Sizes.{Each, weight_in, cases_in, OfDifferences, AreOfDifferences, IsReady, AreReady}
 use Rattle.carol_decide.specs.Makes.{Makes, MakesAll}
 use Rattle.carol_decide.specs.Case as case

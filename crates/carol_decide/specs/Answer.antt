@@ -5,7 +5,7 @@ use Rattle.carol_formula.specs.Claim.{Claim, truth, cases_of}
 use Rattle.carol_cert.specs.Proof.{Proof, proof_of}
 use Rattle.carol_cert.specs.Refutes.{Refutes}
 use Rattle.carol_cert.specs.Counts.{turns_of}
-use Rattle.carol_linear_stage.specs.Due.{rows_at}
+use Rattle.carol_elimination.specs.Due.{rows_at}
 use Rattle.carol_linear.specs.Answer.{IsSpent, IsWide, IsFar}
 use Rattle.carol_linear.specs.declared.answer.Wide.{Wide as WideReason}
 use Rattle.carol_linear.specs.declared.answer.Far.{Far as FarReason}

@@ -2,7 +2,7 @@
 use Rattle.std.specs.Prelude.{ℕ, zero, suc, ◌≡◌, ◌⊎◌, List, [], ◌∷◌, ◌++◌, Some, slice_set}
 use Rattle.carol_formula.specs.Claim.{Claim}
 use Rattle.carol_cert.specs.Refutes.{parts_at, sides_at}
-use Rattle.carol_linear_stage.specs.Due.{AreRows}
+use Rattle.carol_elimination.specs.Due.{AreRows}
 
 -- an `And` of the list is taken apart, its right part coming last, or an `Or` or a `Ne` is one of its sides
 pub record TakesParts (claims next : List Claim) : Type 0 where

@@ -4,7 +4,7 @@ use Rattle.carol_formula.specs.Claim.{Claim}
 use Rattle.carol_cert.specs.Proof.{Proof}
 use Rattle.carol_cert.specs.Refutes.{Refutes}
 use Rattle.carol_cert.specs.Counts.{turns_of, IsUnfinished}
-use Rattle.carol_linear_stage.specs.Due.{BranchesAreDue}
+use Rattle.carol_elimination.specs.Due.{BranchesAreDue}
 use Rattle.carol_decide.specs.Sizes.{cases_in, AreOfDifferences}
 
 -- the tree refutes the list, its branches are due, and among differences it takes no turn more than the list

@@ -2,7 +2,7 @@
 use Rattle.std.specs.Prelude.{◌≡◌, List, [], ◌∷◌, Some}
 use Rattle.carol_formula.specs.Claim.{Claim, False}
 use Rattle.carol_cert.specs.Refutes.{parts_of, sides_of}
-use Rattle.carol_linear_stage.specs.Due.{AreRows}
+use Rattle.carol_elimination.specs.Due.{AreRows}
 use Rattle.carol_decide.specs.Sizes.{IsReady, AreReady}
 use Rattle.carol_decide.specs.Piece.{claim_of_piece}
 use Rattle.carol_decide.specs.Frames.{StandsAt}

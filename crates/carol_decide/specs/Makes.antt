@@ -2,7 +2,7 @@
 use Rattle.std.specs.Prelude.{ℕ, ◌⊎◌, List, ℤ, IsTrue}
 use Rattle.carol_formula.specs.Value.{Fits}
 use Rattle.carol_formula.specs.Claim.{Claim, True, False, Le, Eq, Ne, And, Or, Not, truth}
-use Rattle.carol_cert_rows.specs.Cases.{below_zero, above_zero}
+use Rattle.carol_cert.specs.Cases.{below_zero, above_zero}
 use Rattle.carol_decide.specs.Sizes.{Each}
 
 -- the comparison's term can be added up at the numbers, and the comparison is true of them

@@ -1,9 +1,9 @@
 -- The formulas at a place.
 use Rattle.std.specs.Prelude.{List, map}
 use Rattle.carol_formula.specs.Claim.{Claim}
-use Rattle.carol_cert_rows.specs.Place.{claim_of_item}
-use Rattle.carol_cert_rows.specs.declared.place.Item.{Item}
-use Rattle.carol_cert_rows.specs.declared.place.Item.TheVariants as item
+use Rattle.carol_cert.specs.Place.{claim_of_item}
+use Rattle.carol_cert.specs.declared.place.Item.{Item}
+use Rattle.carol_cert.specs.declared.place.Item.TheVariants as item
 use Rattle.carol_decide.specs.declared.piece.Piece.{Piece}
 use Rattle.carol_decide.specs.declared.piece.Piece.TheVariants.{Whole, Negative, Positive}
 

@@ -5,17 +5,17 @@ use Rattle.carol_formula.specs.Numbers.{number_at}
 use Rattle.carol_formula.specs.Linear.{Linear}
 use Rattle.carol_formula.specs.declared.term.Row.{Row}
 use Rattle.carol_formula.specs.Claim.{Claim, Le, Eq}
-use Rattle.carol_cert_rows.specs.Steps.{Closes}
-use Rattle.carol_cert_rows.specs.declared.step.RowStep.{RowStep}
-use Rattle.carol_cert_rows.specs.declared.step.RowStep.TheVariants.{Given, Reversed}
+use Rattle.carol_cert.specs.Steps.{Closes}
+use Rattle.carol_cert.specs.declared.step.RowStep.{RowStep}
+use Rattle.carol_cert.specs.declared.step.RowStep.TheVariants.{Given, Reversed}
 use Rattle.carol_cert.specs.Proof.{Proof, proof_of}
 use Rattle.carol_cert.specs.Counts.{turns_of}
 use Rattle.carol_difference.specs.Rows.{IsDifference, IsNarrow}
 use Rattle.carol_difference.specs.Decision.{IsDecision}
 use Rattle.carol_difference.specs.declared.DiffAnswer.{DiffAnswer}
-use Rattle.carol_linear_stage.specs.Due.{rows_at}
-use Rattle.carol_linear_arena.specs.Entries.{terms_of}
-use Rattle.carol_linear_leaf.specs.Names.{AreNamed}
+use Rattle.carol_elimination.specs.Due.{rows_at}
+use Rattle.carol_elimination.specs.Entries.{terms_of}
+use Rattle.carol_linear.specs.Names.{AreNamed}
 use Rattle.carol_linear.specs.Answer.{IsSpent}
 use Rattle.carol_decide.specs.declared.table.Table.{Table}
 use Rattle.carol_decide.specs.declared.attempt.Tried.{Tried}

@@ -1,5 +1,7 @@
 //! A decision procedure for formulas of linear comparisons over whole numbers. Each answer carries
 //! its evidence: a refutation, a valuation, or the reason why the formula stays undecided.
+//!
+//! Layer: solver. Called by `carol_typecheck` and `carol_accord`.
 #![tactic(auto)]
 
 ghost use Rattle.std.specs.Prelude.{◌≤◌, IfOk};

@@ -3,16 +3,16 @@ ghost use Rattle.std.specs.List.{All};
 ghost use Rattle.carol_formula.specs.Bounds.{row_limit};
 ghost use Rattle.carol_formula.specs.Linear.{IsWithin, scaled};
 ghost use Rattle.carol_formula.specs.Claim.{Le, Eq};
-ghost use Rattle.carol_cert_rows.specs.Cases.{below_zero, above_zero};
+ghost use Rattle.carol_cert.specs.Cases.{below_zero, above_zero};
 ghost use Rattle.carol_difference.specs.Rows.{AreDifference, IsDifference, IsNarrow};
-ghost use Rattle.carol_linear_stage.specs.Due.{rows_at};
-ghost use Rattle.carol_linear_arena.specs.Entries.{terms_of};
+ghost use Rattle.carol_elimination.specs.Due.{rows_at};
+ghost use Rattle.carol_elimination.specs.Entries.{terms_of};
 ghost use Rattle.carol_decide.specs.Sizes.{AreReady, IsReady, OfDifferences};
 ghost use Rattle.carol_decide.specs.Piece.{claim_of_piece, claims_in};
 ghost use Rattle.carol_decide.specs.Table.{IsTableOf, own_names};
 
 use crate::piece::Piece;
-use carol_cert_rows::RowStep;
+use carol_cert::RowStep;
 use carol_formula::{Formula, Row, Term, TermError};
 use std::alloc::{AllocError, Global};
 

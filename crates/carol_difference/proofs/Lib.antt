@@ -1,3 +1,9 @@
+pub mod Growing
+pub mod Relaxing
+pub mod Starting
+pub mod Totals
+pub mod Walks
+pub mod Tracing
 pub mod Table
 pub mod Models
 pub mod Sums

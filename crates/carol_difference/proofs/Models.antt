@@ -19,8 +19,8 @@ use Rattle.carol_formula.proofs.Weights.{FitsWithin-near}
 use Rattle.carol_formula.specs.Numbers.{number_at, with_number}
 use Rattle.carol_formula.specs.Value.{value_at, Fits}
 use Rattle.carol_formula.specs.declared.Row.{Row}
-use Rattle.carol_difference_paths.specs.Graph.{edge_at, value_in, IsWithin, Meets, IsPotential, CannotBeMet}
-use Rattle.carol_difference_paths.specs.declared.Edge.{Edge}
+use Rattle.carol_difference.specs.Edges.{edge_at, value_in, IsWithin, Meets, IsPotential, CannotBeMet}
+use Rattle.carol_difference.specs.declared.paths.Edge.{Edge}
 use Rattle.carol_difference.specs.Rows.{AreDifference, IsDifference, IsNarrow, IsUnit, AreOpposite, row_at, claim_of_row}
 use Rattle.carol_difference.specs.Decision.{IsMet, CannotBeTrue}
 use Rattle.carol_difference.specs.Split.{number_of}

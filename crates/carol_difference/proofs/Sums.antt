@@ -10,11 +10,11 @@ use Rattle.std.proofs.lemmas.List.{length_push, get_or_append_left, get_or_push}
 use Rattle.std.proofs.lemmas.Option.{slice_get-map, slice_get-get_or}
 use Rattle.carol_formula.specs.Claim.{Claim, Le}
 use Rattle.carol_formula.specs.declared.Row.{Row}
-use Rattle.carol_cert_rows.specs.PlainRow.{PlainRow, row_of, multiple, sum_of_rows, IsSmall, IsAbsurd, zero_row, last_row}
-use Rattle.carol_cert_rows.specs.Steps.{IsRow, term_of, row_at as made_at, made, CanCombine, IsAllowed, rows_made, AreAllowed, Closes}
-use Rattle.carol_cert_rows.specs.declared.RowStep.TheVariants.{Given, Combine}
-use Rattle.carol_difference_paths.specs.Graph.{edge_at, IsWalk, walk_weight, IsNegativeCycle}
-use Rattle.carol_difference_paths.specs.declared.Edge.{Edge}
+use Rattle.carol_cert.specs.PlainRow.{PlainRow, row_of, multiple, sum_of_rows, IsSmall, IsAbsurd, zero_row, last_row}
+use Rattle.carol_cert.specs.Steps.{IsRow, term_of, row_at as made_at, made, CanCombine, IsAllowed, rows_made, AreAllowed, Closes}
+use Rattle.carol_cert.specs.declared.RowStep.TheVariants.{Given, Combine}
+use Rattle.carol_difference.specs.Edges.{edge_at, IsWalk, walk_weight, IsNegativeCycle}
+use Rattle.carol_difference.specs.declared.paths.Edge.{Edge}
 use Rattle.carol_formula.specs.Bounds.{row_limit}
 use Rattle.carol_difference.specs.Rows.{row_at, IsNarrow, claim_of_row, claims_of}
 use Rattle.carol_difference.specs.Split.{unit_of}

@@ -11,8 +11,8 @@ use Rattle.std.proofs.lemmas.Bool.Decides.{nat_tests}
 use Rattle.std.proofs.lemmas.List.{length_push, get_or_append_left, get_or_push}
 use Rattle.std.proofs.lemmas.Option.{slice_get_within}
 use Rattle.carol_formula.specs.declared.Row.{Row}
-use Rattle.carol_difference_paths.specs.Graph.{edge_at}
-use Rattle.carol_difference_paths.specs.declared.Edge.{Edge}
+use Rattle.carol_difference.specs.Edges.{edge_at}
+use Rattle.carol_difference.specs.declared.paths.Edge.{Edge}
 use Rattle.carol_difference.specs.Rows.{row_at}
 use Rattle.carol_difference.specs.Split.{IsSplit}
 use Rattle.carol_difference.specs.Evidence.{AreApart}

@@ -5,7 +5,7 @@ use Rattle.carol_formula.specs.Claim.{truth}
 use Rattle.carol_formula.specs.Value.{Fits}
 use Rattle.carol_formula.specs.Numbers.{number_at}
 use Rattle.carol_formula.specs.declared.Row.{Row}
-use Rattle.carol_cert_rows.specs.Steps.{Closes}
+use Rattle.carol_cert.specs.Steps.{Closes}
 use Rattle.carol_difference.specs.Rows.{claim_of_row, claims_of}
 use Rattle.carol_difference.specs.declared.DiffAnswer.{DiffAnswer}
 use Rattle.carol_difference.specs.declared.DiffAnswer.TheVariants.{Refuted, Model}

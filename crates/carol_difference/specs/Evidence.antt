@@ -1,9 +1,9 @@
 -- The evidence for an answer: numbers for the variables, and steps that add rows up.
 use Rattle.std.specs.Prelude.{◌≡◌, ℕ, ◌+◌, ◌<◌, ◌≤◌, ◌^◌, List, [], ◌∷◌, Some, slice_get, ℤ, pos, ◌-ℤ◌, unsigned_abs}
 use Rattle.carol_formula.specs.Numbers.{number_at}
-use Rattle.carol_cert_rows.specs.declared.RowStep.{RowStep}
-use Rattle.carol_cert_rows.specs.declared.RowStep.TheVariants.{Given, Combine}
-use Rattle.carol_difference_paths.specs.Graph.{value_in}
+use Rattle.carol_cert.specs.declared.RowStep.{RowStep}
+use Rattle.carol_cert.specs.declared.RowStep.TheVariants.{Given, Combine}
+use Rattle.carol_difference.specs.Edges.{value_in}
 
 -- no variable stands twice
 abbrev pub AreApart : List ℕ → Type 0

@@ -3,8 +3,8 @@ use Rattle.std.specs.Prelude.{◌≡◌, ℕ, zero, suc, ◌+◌, ◌*◌, ◌<�
 use Rattle.std.specs.Ordering.{nat_cmp}
 use Rattle.std.specs.BTreeMap.{BTreeMap, get}
 use Rattle.carol_formula.specs.declared.Row.{Row}
-use Rattle.carol_difference_paths.specs.Graph.{edge_at}
-use Rattle.carol_difference_paths.specs.declared.Edge.{Edge}
+use Rattle.carol_difference.specs.Edges.{edge_at}
+use Rattle.carol_difference.specs.declared.paths.Edge.{Edge}
 use Rattle.carol_difference.specs.Rows.{row_at}
 use Rattle.carol_difference.specs.Split.{IsSplit}
 

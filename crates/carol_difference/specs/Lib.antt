@@ -1,3 +1,5 @@
+pub mod Edges
+pub mod Forest
 pub mod Rows
 pub mod Decision
 pub mod Split

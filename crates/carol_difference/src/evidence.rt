@@ -2,7 +2,7 @@ ghost use Rattle.std.specs.Prelude.{◌≡◌, ◌+◌, ◌^◌, ◌≤◌, leng
 ghost use Rattle.std.specs.List.{All};
 ghost use Rattle.carol_difference.specs.Evidence.{AreApart, GivesNumbers, sum_steps};
 
-use carol_cert_rows::{RowStep, StepList};
+use carol_cert::{RowStep, StepList};
 use carol_formula::{Valuation, Variable};
 use std::alloc::{AllocError, Global};
 

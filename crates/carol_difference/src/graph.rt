@@ -3,8 +3,8 @@ ghost use Rattle.std.specs.List.{All};
 ghost use Rattle.carol_difference.specs.Graph.{Grows, IsGraph, IsTable, variable_at};
 ghost use Rattle.carol_difference.specs.Rows.{IsDifference, IsNarrow};
 
+use crate::Edge;
 use crate::sides::sides_of;
-use carol_difference_paths::Edge;
 use carol_formula::Row;
 use std::alloc::{AllocError, Global};
 use std::collections::BTreeMap;

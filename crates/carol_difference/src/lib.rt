@@ -1,5 +1,8 @@
 //! A decision procedure for rows of differences, whose every answer carries its evidence: a
-//! valuation that makes all rows true, or steps that refute them.
+//! valuation that makes all rows true, or steps that refute them. Below it are shortest paths over
+//! plain edges.
+//!
+//! Layer: solver. Called by `carol_decide` where all rows are differences.
 #![tactic(auto)]
 
 ghost use Rattle.std.specs.Prelude.{◌≡◌, ℕ, ◌^◌, ◌≤◌, ◌↔◌, length, IfNone, IfOk, IfSome, IsTrue, OnOk};
@@ -7,14 +10,9 @@ ghost use Rattle.std.specs.List.{All};
 ghost use Rattle.carol_difference.specs.Decision.{IsDecision};
 ghost use Rattle.carol_difference.specs.Rows.{IsDifference, IsFirstOther, IsNarrow};
 
-use carol_cert_rows::StepList;
-use carol_difference_paths::{Paths, potentials_or_cycle};
+use carol_cert::StepList;
 use carol_formula::{ROW_LIMIT, Row, Valuation};
 use std::alloc::{AllocError, Global};
-
-mod evidence;
-mod graph;
-mod sides;
 
 /// Whether rows can be true together.
 #[derive(Debug, Drop)]
@@ -105,5 +103,12 @@ fn decided(alloc: Global, rows: &[Row]) -> Result<DiffAnswer, AllocError>
     }
 }
 
+mod evidence;
+mod forest;
+mod graph;
+mod paths;
+mod sides;
 #[cfg(test)]
 mod tests;
+
+pub use paths::{Edge, Paths, potentials_or_cycle};

@@ -1,6 +1,11 @@
+pub mod Begun
+pub mod BegunLines
 pub mod Causes
 pub mod Exact
 pub mod Near
+pub mod Online
+pub mod OnlineLines
 pub mod OneMore
+pub mod Places
 pub mod Printed
 pub mod RoundTrip

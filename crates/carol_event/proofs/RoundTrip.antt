@@ -17,17 +17,17 @@ use Rattle.carol_event.specs.Texts.{atom_text, atoms_text, cause_text, event_tex
 use Rattle.carol_event.proofs.Causes.{exact_cause}
 use Rattle.carol_event.proofs.Exact.{IsExact, end_takes, exact_atom, exact_both, exact_number, exact_pair, exact_value, exact_wide, items_again, items_take}
 
-exact_return : IsExact (λ (p : ℕ × ℤ). IsNumber p.0 × IsWide p.1) (λ (p : ℕ × ℤ). decimal p.0 ++ (codes " " ++ signed_decimal p.1)) (both_at number32_at (codes " ") wide_at)
+pub exact_return : IsExact (λ (p : ℕ × ℤ). IsNumber p.0 × IsWide p.1) (λ (p : ℕ × ℤ). decimal p.0 ++ (codes " " ++ signed_decimal p.1)) (both_at number32_at (codes " ") wide_at)
 exact_return = exact_both IsNumber decimal number32_at IsWide signed_decimal wide_at (codes " ") exact_number exact_wide (λ rest. refl)
 
-exact_refuse : IsExact (λ (p : ℕ × Cause). IsNumber p.0 × HasNumbersOf p.1) (λ (p : ℕ × Cause). decimal p.0 ++ (codes " " ++ cause_text p.1)) (both_at number32_at (codes " ") cause_at)
+pub exact_refuse : IsExact (λ (p : ℕ × Cause). IsNumber p.0 × HasNumbersOf p.1) (λ (p : ℕ × Cause). decimal p.0 ++ (codes " " ++ cause_text p.1)) (both_at number32_at (codes " ") cause_at)
 exact_refuse = exact_both IsNumber decimal number32_at HasNumbersOf cause_text cause_at (codes " ") exact_number exact_cause (λ rest. refl)
 
-exact_deliver : IsExact (λ (p : ℕ × (ℕ × ℕ)). IsNumber p.0 × ArePair p.1.0 p.1.1) (λ (p : ℕ × (ℕ × ℕ)). decimal p.0 ++ (codes " " ++ pair_text p.1.0 p.1.1)) (both_at number32_at (codes " ") pair_at)
+pub exact_deliver : IsExact (λ (p : ℕ × (ℕ × ℕ)). IsNumber p.0 × ArePair p.1.0 p.1.1) (λ (p : ℕ × (ℕ × ℕ)). decimal p.0 ++ (codes " " ++ pair_text p.1.0 p.1.1)) (both_at number32_at (codes " ") pair_at)
 exact_deliver =
     exact_both IsNumber decimal number32_at (λ (p : ℕ × ℕ). ArePair p.0 p.1) (λ (p : ℕ × ℕ). pair_text p.0 p.1) pair_at (codes " ") exact_number exact_pair (λ rest. refl)
 
-refuse_joined : (a b : List ℕ) → codes "refuse " ++ (a ++ (codes " " ++ b)) ≡ (codes "refuse " ++ (a ++ codes " ")) ++ b
+pub refuse_joined : (a b : List ℕ) → codes "refuse " ++ (a ++ (codes " " ++ b)) ≡ (codes "refuse " ++ (a ++ codes " ")) ++ b
 refuse_joined a b = sym (append_assoc (codes "refuse ") (a ++ codes " ") b ∙ ap (λ (rest : List ℕ). codes "refuse " ++ rest) (append_assoc a (codes " ") b))
 
 -- one part, and the end of the line

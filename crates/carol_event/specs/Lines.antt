@@ -1,6 +1,6 @@
 -- Reading the line of an event from its front, on lists of bytes. What reading gives is a value, or
 -- how many bytes are left from the first bad one on.
-use Rattle.std.specs.Prelude.{◌≡◌, ℕ, ◌+◌, zero, suc, List, [], ◌∷◌, codes, length, ℤ, Result, Ok, Err, slice_index, ◌==◌, if◌then◌else◌}
+use Rattle.std.specs.Prelude.{ℕ, zero, suc, List, [], ◌∷◌, codes, length, ℤ, Result, Ok, Err, slice_index, ◌==◌, if◌then◌else◌}
 use Rattle.carol_text.specs.Number.{number_at, integer_at}
 use Rattle.carol_text.specs.Reading.{Reading, ◌>>=◌, word_at}
 use Rattle.carol_store.specs.declared.effect.Atom.{Atom}
@@ -9,8 +9,6 @@ use Rattle.carol_event.specs.declared.event.Cause.{Cause}
 use Rattle.carol_event.specs.declared.event.Cause.TheVariants.{Barred, Behind}
 use Rattle.carol_event.specs.declared.event.Event.{Event}
 use Rattle.carol_event.specs.declared.event.Event.TheVariants.{Grant, Query, Issue, Release, Return, Refuse, Deliver, Cut, Join}
-use Rattle.carol_event.specs.declared.error.LineError.{LineError}
-use Rattle.carol_event.specs.declared.error.LineError.TheVariants.{Bad, NoMemory}
 use Rattle.carol_event.specs.declared.kind.Kind.{Kind}
 use Rattle.carol_event.specs.declared.kind.Kind.TheVariants as kind
 use Rattle.carol_event.specs.Kinds.{kind_of, word_of}
@@ -92,10 +90,3 @@ fields_at kind.Join bytes = pair_at bytes >>= λ x. at_end (Join x.0.0 x.0.1) x.
 -- the event of a line
 unfoldable pub event_at : List ℕ → Result Event ℕ
 event_at line = word_at (word_of (kind_of line)) line >>= λ rest. fields_at (kind_of line) rest
-
--- what parsing a line answers: the event, or the column, from 1, of the first bad byte
-abbrev pub Parses : List ℕ → Result Event LineError → Type 0
-Parses line (Ok event) = event_at line ≡ Ok event
-Parses line (Err (Bad column)) =
-    (left : ℕ) × (event_at line ≡ Err left) × (column + left ≡ length line + 1)
-Parses line (Err NoMemory) = ⊥

@@ -1,4 +1,6 @@
 //! The events of a history as texts, one line each.
+//!
+//! Layer: machine. Called by the house, the report and the audit.
 #![tactic(auto)]
 
 mod error;

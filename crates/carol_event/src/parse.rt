@@ -2,7 +2,8 @@ ghost use Rattle.std.specs.Prelude.{◌≡◌, ◌+◌, ◌≤◌, length, IfOk,
 ghost use Rattle.carol_text.specs.Reading.{Reads};
 ghost use Rattle.carol_event.specs.declared.kind.Kind.TheVariants as kind;
 ghost use Rattle.carol_event.specs.declared.event.Event.{Event as EventData};
-ghost use Rattle.carol_event.specs.Lines.{Parses, at_end, event_at, fields_at};
+ghost use Rattle.carol_event.specs.Faults.{Refuses};
+ghost use Rattle.carol_event.specs.Lines.{at_end, event_at, fields_at};
 ghost use Rattle.carol_event.specs.Numbers.{HasNumbers};
 ghost use Rattle.carol_event.specs.Texts.{event_text};
 
@@ -23,9 +24,9 @@ pub fn parse_event(alloc: Global, line: &[u8]) -> Result<Event, LineError>
     ensures only { (event : EventData) → HasNumbers event → line.now ≡ event_text event
         → IsOkAnd result (λ x. x ≡ event) }
 
-    // Bad are also the first byte of the 17th value or atom, the digit with which a number gets too
-    // wide, and the zero behind a minus.
-    ensures exact { Parses line.now result }
+    // No event's text begins with the line up to and with the column, and one begins with what stands
+    // before it. The 17th value or atom is bad at its first byte, not at the space before it.
+    ensures bad { Refuses line.now result }
 {
     match event(alloc, line) {
         Ok(event) => Ok(event),

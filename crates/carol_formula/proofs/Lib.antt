@@ -10,3 +10,5 @@ pub mod Division
 pub mod Weights
 pub mod Claims
 pub mod Places
+pub mod NamedWeights
+pub mod Renamings

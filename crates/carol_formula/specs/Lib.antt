@@ -7,3 +7,4 @@ pub mod Division
 pub mod Claim
 pub mod Numbers
 pub mod Tree
+pub mod Named

@@ -1,9 +1,15 @@
-//! Linear terms, comparisons of them with zero, and formulas made of these.
+//! Linear terms, comparisons of them with zero, formulas made of these, their truth, and renaming:
+//! a term or a formula with a term in place of each variable, all at once.
+//!
+//! Layer: solver. Called by all that makes, decides or shows formulas.
 #![tactic(auto)]
 
 mod boxed;
 mod formula;
 mod number;
+mod renaming;
+#[cfg(test)]
+mod renaming_tests;
 mod term;
 #[cfg(test)]
 mod tests;
@@ -14,5 +20,6 @@ pub use formula::Formula;
 pub use number::{
     NARROW_LIMIT, ROW_LIMIT, TERM_LIMIT, VALUE_LIMIT, is_below, product_within, sum_within,
 };
+pub use renaming::{Naming, plus, renamed, renamed_term};
 pub use term::{Row, Term, TermError};
 pub use variable::{Lookup, Valuation, Variable};

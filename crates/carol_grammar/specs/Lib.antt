@@ -4,3 +4,10 @@ pub mod Sentence
 pub mod Reading
 pub mod Sound
 pub mod Found
+pub mod Terminals
+pub mod Rules
+pub mod Limits
+pub mod Counts
+pub mod Outcome
+pub mod Reach
+pub mod Law

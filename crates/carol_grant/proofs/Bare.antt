@@ -7,7 +7,7 @@ use Rattle.carol_store.specs.declared.shape.CellKind.{CellKind}
 use Rattle.carol_store.specs.declared.short_list.TheConstants.{MOST_CELLS}
 use Rattle.carol_program.specs.Accords.{Accords}
 use Rattle.carol_grant.specs.declared.row.Row.{Row}
-use Rattle.carol_grant.specs.declared.row.TheConstants.{MOST_GUARDS, MOST_SESSIONS}
+use Rattle.carol_program.specs.declared.limits.TheConstants.{MOST_GUARDS, MOST_SESSIONS}
 use Rattle.carol_grant.specs.declared.tally.Tally.{Tally}
 use Rattle.carol_grant.specs.Counts.{count_row, count_rows}
 use Rattle.carol_grant.specs.Kept.{IsBare, IsKept, IsRow, lacks_way, lives}

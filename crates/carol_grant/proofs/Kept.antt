@@ -9,7 +9,7 @@ use Rattle.std.proofs.lemmas.Option.{slice_get-map, slice_get_within, slice_get_
 use Rattle.carol_store.specs.declared.shape.CellKind.{CellKind}
 use Rattle.carol_program.specs.Accords.{Accords}
 use Rattle.carol_grant.specs.declared.row.Row.{Row}
-use Rattle.carol_grant.specs.declared.row.TheConstants.{MOST_GUARDS, MOST_SESSIONS}
+use Rattle.carol_program.specs.declared.limits.TheConstants.{MOST_GUARDS, MOST_SESSIONS}
 use Rattle.carol_grant.specs.declared.tally.Lacking.{Lacking}
 use Rattle.carol_grant.specs.declared.tally.Tally.{Tally}
 use Rattle.carol_grant.specs.Grants.{Closes, GrantsOne}

@@ -11,32 +11,24 @@ use Rattle.carol_store.specs.declared.short_list.TheConstants.{MOST_CELLS}
 use Rattle.carol_store.specs.declared.direction.Direction.{Direction}
 use Rattle.carol_store.specs.declared.effect.Atom.{Atom}
 use Rattle.carol_store.specs.Directions.{directions}
-use Rattle.carol_store.specs.Kinds.{way}
-use Rattle.carol_program.specs.Accords.{Accords, GoesWay, HasWay}
+use Rattle.carol_store.specs.Kinds.{can_go, way}
+use Rattle.carol_program.specs.Accords.{Accords, HasWay}
 use Rattle.carol_grant.specs.Bars.{AreWays}
 use Rattle.carol_grant.specs.Counts.{count_rows}
 use Rattle.carol_grant.specs.Grants.{lacks}
-use Rattle.carol_grant.specs.Kept.{can_go, lacks_way}
+use Rattle.carol_grant.specs.Kept.{goes, lacks_way}
 use Rattle.carol_grant.specs.Tallies.{AreCells}
 
 -- the shape has a way that its cell can go
-pub can_go-way : (kinds : List CellKind) (cell : ℕ) (up : Bool) → can_go (slice_get kinds cell) up ≡ true → HasWay kinds cell up
-can_go-way [] cell up h = absurd (false≢true h)
-can_go-way (Counter ∷ kinds) zero up h = tt
-can_go-way (Peak ∷ kinds) zero true h = tt
-can_go-way (Peak ∷ kinds) zero false h = absurd (false≢true h)
-can_go-way (Flag ∷ kinds) zero true h = tt
-can_go-way (Flag ∷ kinds) zero false h = absurd (false≢true h)
-can_go-way (kind ∷ kinds) (suc cell) up h = can_go-way kinds cell up h
+pub goes-way : (kinds : List CellKind) (cell : ℕ) (up : Bool) → goes (slice_get kinds cell) up ≡ true → HasWay kinds cell up
+goes-way [] cell up h = absurd (false≢true h)
+goes-way (kind ∷ kinds) zero up h = h
+goes-way (kind ∷ kinds) (suc cell) up h = goes-way kinds cell up h
 
 -- a cell can go the ways that the shape has
-pub HasWay-goes : (kinds : List CellKind) (cell : ℕ) (up : Bool) → HasWay kinds cell up → can_go (slice_get kinds cell) up ≡ true
+pub HasWay-goes : (kinds : List CellKind) (cell : ℕ) (up : Bool) → HasWay kinds cell up → goes (slice_get kinds cell) up ≡ true
 HasWay-goes [] cell up h = absurd h
-HasWay-goes (Counter ∷ kinds) zero up h = refl
-HasWay-goes (Peak ∷ kinds) zero true h = refl
-HasWay-goes (Peak ∷ kinds) zero false h = absurd h
-HasWay-goes (Flag ∷ kinds) zero true h = refl
-HasWay-goes (Flag ∷ kinds) zero false h = absurd h
+HasWay-goes (kind ∷ kinds) zero up h = h
 HasWay-goes (kind ∷ kinds) (suc cell) up h = HasWay-goes kinds cell up h
 
 -- its cell is there
@@ -56,17 +48,18 @@ way_there false passes rows h = absurd (false≢true h)
 
 pub count_lacks : (accords : Accords) (cell : ℕ) (up : Bool) (rows : List (List Bool)) → HasWay accords.kinds cell up → count_rows (lacks_way accords cell up) rows ≡ count_rows (lacks accords cell up) rows
 count_lacks accords cell up rows h =
-    way_there (can_go (slice_get accords.kinds cell) up) (lacks accords cell up) rows (HasWay-goes accords.kinds cell up h)
+    way_there (goes (slice_get accords.kinds cell) up) (lacks accords cell up) rows (HasWay-goes accords.kinds cell up h)
 
 pub lacks_way-is : (accords : Accords) (cell : ℕ) (up : Bool) (guard : ℕ) → HasWay accords.kinds cell up → lacks_way accords cell up guard ≡ lacks accords cell up guard
 lacks_way-is accords cell up guard h = rw (HasWay-goes accords.kinds cell up h) refl
 
 -- a direction of an effect is a way of the shape
-way_of-kind : (kind : CellKind) (value : ℤ) (up : Bool) → way kind value ≡ Some up → GoesWay kind up
-way_of-kind Counter value up h = tt
-way_of-kind Peak value true h = tt
+way_of-kind : (kind : CellKind) (value : ℤ) (up : Bool) → way kind value ≡ Some up → can_go kind up ≡ true
+way_of-kind Counter value true h = refl
+way_of-kind Counter value false h = refl
+way_of-kind Peak value true h = refl
 way_of-kind Peak value false h = absurd (cc)
-way_of-kind Flag value true h = tt
+way_of-kind Flag value true h = refl
 way_of-kind Flag value false h = absurd (cc)
 
 way_of-cell : (kinds : List CellKind) (cell : ℕ) (value : ℤ) (up : Bool) → option_and_then (λ kind. way kind value) (slice_get kinds cell) ≡ Some up → HasWay kinds cell up

@@ -2,27 +2,25 @@
 use Rattle.std.specs.Prelude.{◌≡◌, ℕ, ◌<◌, ◌≤◌, Bool, true, false, ◌&&◌, List, length, map, replicate, Option, Some, None, slice_get, get_or}
 use Rattle.std.specs.List.{AllByRecursion}
 use Rattle.carol_store.specs.declared.shape.CellKind.{CellKind}
-use Rattle.carol_store.specs.declared.shape.CellKind.TheVariants.{Counter, Peak, Flag}
+use Rattle.carol_store.specs.Kinds.{can_go}
 use Rattle.carol_store.specs.declared.short_list.TheConstants.{MOST_CELLS}
 use Rattle.carol_program.specs.Accords.{Accords}
 use Rattle.carol_grant.specs.declared.tally.Tally.{Tally}
 use Rattle.carol_grant.specs.declared.row.Row.{Row}
-use Rattle.carol_grant.specs.declared.row.TheConstants.{MOST_GUARDS, MOST_SESSIONS}
+use Rattle.carol_program.specs.declared.limits.TheConstants.{MOST_GUARDS, MOST_SESSIONS}
 use Rattle.carol_grant.specs.Counts.{count_row, count_rows}
 use Rattle.carol_grant.specs.Grants.{lacks}
 use Rattle.carol_grant.specs.Tallies.{IsTally, tally_at}
 
 -- the cell is there, and can go this way
-abbrev pub can_go : Option CellKind → Bool → Bool
-can_go None up = false
-can_go (Some Counter) up = true
-can_go (Some Peak) up = up
-can_go (Some Flag) up = up
+abbrev pub goes : Option CellKind → Bool → Bool
+goes None up = false
+goes (Some kind) up = can_go kind up
 
 -- the shape has the way, and the guard's accord lacks it
 abbrev pub lacks_way : Accords → ℕ → Bool → ℕ → Bool
 lacks_way accords cell up guard =
-    can_go (slice_get accords.kinds cell) up && lacks accords cell up guard
+    goes (slice_get accords.kinds cell) up && lacks accords cell up guard
 
 -- the grants of each session
 abbrev pub lives : List Row → List (List Bool)

@@ -1,9 +1,9 @@
 ghost use Rattle.std.specs.Prelude.{◌≡◌, ℕ, ◌<◌, ◌≤◌, false, length, slice_get, IfOk};
-ghost use Rattle.carol_grant.specs.Kept.{can_go};
+ghost use Rattle.carol_grant.specs.Kept.{goes};
 
-use crate::row::{MOST_GUARDS, MOST_SESSIONS, Row, bare_rows};
+use crate::row::{Row, bare_rows};
 use crate::tally::{Lacking, Tally};
-use carol_program::{AccordTable, Entry};
+use carol_program::{AccordTable, Entry, MOST_GUARDS, MOST_SESSIONS};
 use carol_store::{CellKind, Direction, Effect, MOST_CELLS, Shape};
 use std::alloc::{AllocError, Global};
 use std::marker::Model;
@@ -231,7 +231,7 @@ impl Grants {
         requires { guard < self.now.accords.guards }
         ensures { result ≡ lacks_way self.now.accords cell up guard }
     {
-        if !can_go(self.shape.kinds(), cell, up) {
+        if !goes(self.shape.kinds(), cell, up) {
             return false;
         }
         match self.accords.entry(guard, cell, up) {
@@ -242,12 +242,11 @@ impl Grants {
 }
 
 // Whether the cell is there, and can go up, or down.
-fn can_go(kinds: &[CellKind], cell: u32, up: bool) -> bool
-    ensures { result ≡ can_go (slice_get kinds.now cell) up }
+fn goes(kinds: &[CellKind], cell: u32, up: bool) -> bool
+    ensures { result ≡ goes (slice_get kinds.now cell) up }
 {
-    match kinds.get(cell as usize).copied() {
+    match kinds.get(cell as usize) {
         None => false,
-        Some(CellKind::Counter) => true,
-        Some(CellKind::Peak | CellKind::Flag) => up,
+        Some(kind) => kind.can_go(up),
     }
 }

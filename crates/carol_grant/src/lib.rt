@@ -3,6 +3,8 @@
 //! For each way that a cell can go, the number of live grants whose accord lacks it is kept, over
 //! all sessions and for each of them. So a bar is looked for only where others than the session
 //! have one.
+//!
+//! Layer: machine. Called by `carol_house`.
 #![tactic(auto)]
 
 mod grants;
@@ -12,4 +14,3 @@ mod tally;
 mod tests;
 
 pub use grants::Grants;
-pub use row::{MOST_GUARDS, MOST_SESSIONS};

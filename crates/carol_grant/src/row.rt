@@ -3,13 +3,8 @@ ghost use Rattle.std.specs.List.{AllByRecursion};
 ghost use Rattle.carol_grant.specs.Kept.{IsBare};
 
 use crate::tally::Tally;
+use carol_program::MOST_GUARDS;
 use std::alloc::{AllocError, Global};
-
-/// How many guards there are at most.
-pub const MOST_GUARDS: usize = 16;
-
-/// How many sessions there are at most.
-pub const MOST_SESSIONS: usize = 64;
 
 /// The grants of one session: whether each guard is granted to it, and how many of those that are
 /// lack each way.

@@ -11,8 +11,8 @@ use Rattle.carol_reading.specs.Marks.{Asked, Issued, Released, Returned}
 use Rattle.carol_event.specs.declared.event.Cause.{Cause}
 use Rattle.carol_event.specs.declared.event.Event.{Event}
 use Rattle.carol_event.specs.declared.event.Event.TheVariants.{Deliver, Cut, Join}
-use Rattle.carol_history.specs.declared.outcome.Outcome.{Outcome}
-use Rattle.carol_history.specs.declared.outcome.Outcome.TheVariants as outcome
+use Rattle.carol_reading.specs.declared.outcome.Outcome.{Outcome}
+use Rattle.carol_reading.specs.declared.outcome.Outcome.TheVariants as outcome
 use Rattle.carol_history.specs.Acts.{Act, Granted, Did, Refused, Place, acts, has_grant, place, UnderWay}
 use Rattle.carol_history.specs.Journals.{journal}
 use Rattle.carol_history.specs.Laws.{DoneIsNoneUnderWay, ForcedIsLegal, GlobalGrows, LiveAfter, PlaceIsBehind}

@@ -12,12 +12,12 @@ use Rattle.carol_store.specs.Actions.{chosen_from}
 use Rattle.carol_store.specs.Effects.{IsEffect}
 use Rattle.carol_store.specs.Kinds.{CellValue, MayHold}
 use Rattle.carol_store.specs.Laws.{AddsLittle, AreWithin, EffectsAddLittle}
-use Rattle.carol_store.specs.Stores.{IsStore, apply, apply_all}
+use Rattle.carol_store.specs.Stores.{IsStore, apply, apply_all, StayInWords}
 use Rattle.carol_program.specs.WellFormed.{StartSmall, StartsSmall}
 use Rattle.carol_event.specs.declared.event.Event.{Event}
 use Rattle.carol_event.specs.declared.event.Event.TheVariants.{Issue}
 use Rattle.carol_history.specs.Journals.{journal}
-use Rattle.carol_history.specs.Laws.{FewStayLow, StayInWords}
+use Rattle.carol_history.specs.Laws.{FewStayLow}
 
 module _ {E : Type 0} where
   -- chosen entries are as many at most, and have what all have

@@ -16,7 +16,7 @@ use Rattle.carol_reading.specs.Marks.{Mark, Asked, Issued, Returned}
 use Rattle.carol_event.specs.declared.event.Cause.TheVariants.{Barred}
 use Rattle.carol_event.specs.declared.event.Event.{Event}
 use Rattle.carol_event.specs.declared.event.Event.TheVariants.{Grant, Query, Issue, Return, Refuse, Deliver}
-use Rattle.carol_history.specs.declared.outcome.Outcome.TheVariants as outcome
+use Rattle.carol_reading.specs.declared.outcome.Outcome.TheVariants as outcome
 use Rattle.carol_history.specs.Acts.{Next, UnderWay, acts, attempt, is_live, marks, place}
 use Rattle.carol_history.specs.Journals.{global, local}
 use Rattle.carol_history.specs.Legal.{Admits, IsBefore}

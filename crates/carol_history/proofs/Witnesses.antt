@@ -25,7 +25,7 @@ use Rattle.carol_reading.specs.Marks.{Mark, Asked, Issued, Returned}
 use Rattle.carol_event.specs.declared.event.Cause.TheVariants.{Barred, Behind}
 use Rattle.carol_event.specs.declared.event.Event.{Event}
 use Rattle.carol_event.specs.declared.event.Event.TheVariants.{Grant, Query, Issue, Return, Refuse, Deliver, Cut}
-use Rattle.carol_history.specs.declared.outcome.Outcome.TheVariants as outcome
+use Rattle.carol_reading.specs.declared.outcome.Outcome.TheVariants as outcome
 use Rattle.carol_history.specs.Acts.{Next, acts, attempt, is_live, marks, place}
 use Rattle.carol_history.specs.Bounds.{most_events}
 use Rattle.carol_history.specs.Forced.{Forced}

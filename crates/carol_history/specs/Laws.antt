@@ -6,7 +6,7 @@ use Rattle.carol_store.specs.declared.effect.Atom.{Atom}
 use Rattle.carol_store.specs.Actions.{chosen_from}
 use Rattle.carol_store.specs.Effects.{IsEffect}
 use Rattle.carol_store.specs.Kinds.{CellValue}
-use Rattle.carol_store.specs.Stores.{IsStore, StaysInWords, apply, apply_all}
+use Rattle.carol_store.specs.Stores.{IsStore, StayInWords, apply, apply_all}
 use Rattle.carol_program.specs.Rules.{Rules}
 use Rattle.carol_program.specs.WellFormed.{StartSmall}
 use Rattle.carol_program.specs.declared.scenes.Scene.{Scene}
@@ -55,12 +55,6 @@ HeldAreEntries scene past = (replica entry : ℕ) →
 -- each cell is below 1.4 * 10^14 in absolute value
 abbrev pub IsLow : List CellValue → Type 0
 IsLow store = All (λ value. unsigned_abs value < 140_000_000_000_000) store
-
--- no cell leaves its word while the effects are applied one after another
-abbrev pub StayInWords : List CellKind → List (List Atom) → List CellValue → Type 0
-StayInWords shape [] store = Unit {0}
-StayInWords shape (effect ∷ effects) store =
-    StaysInWords shape effect store × StayInWords shape effects (apply shape effect store)
 
 -- whichever entries of the journal are applied, no cell leaves its word on the way, and all are low
 -- in the end

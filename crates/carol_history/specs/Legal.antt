@@ -1,6 +1,5 @@
 -- Which event may come next.
 use Rattle.std.specs.Prelude.{◌≡◌, ◌≢◌, ◌⊎◌, ℕ, ◌<◌, true, false, List, length, Option, Some, None, slice_get}
-use Rattle.carol_store.specs.declared.shape.CellKind.{CellKind}
 use Rattle.carol_store.specs.declared.effect.Atom.{Atom}
 use Rattle.carol_store.specs.Kinds.{CellValue}
 use Rattle.carol_formula.specs.Claim.{Claim}
@@ -15,13 +14,13 @@ use Rattle.carol_history.specs.Acts.{Next, is_live}
 use Rattle.carol_history.specs.Journals.{journal, effect_at, is_held, local}
 use Rattle.carol_history.specs.Links.{is_linked}
 
-abbrev pub AdmitsIn : List CellKind → Option Claim → List Atom → Type 0
-AdmitsIn kinds None effect = ⊥
-AdmitsIn kinds (Some guard) effect = Within kinds guard effect
+abbrev pub AdmitsIn : Rules → Option Claim → List Atom → Type 0
+AdmitsIn p None effect = ⊥
+AdmitsIn p (Some guard) effect = Within p guard effect
 
 -- there is a guard with this number, and the effect is within it
 abbrev pub Admits : Rules → ℕ → List Atom → Type 0
-Admits p guard effect = AdmitsIn p.shape (slice_get p.guards guard) effect
+Admits p guard effect = AdmitsIn p (slice_get p.guards guard) effect
 
 -- the replica holds the entry, or the guard admits it
 abbrev pub IsSettled : Rules → Scene → ℕ → ℕ → ℕ → List Event → Type 0

@@ -4,8 +4,8 @@ use Rattle.carol_program.specs.declared.scenes.Scene.{Scene}
 use Rattle.carol_program.specs.declared.scenes.SessionPlan.{SessionPlan}
 use Rattle.carol_reading.specs.Marks.{Returned}
 use Rattle.carol_event.specs.declared.event.Event.{Event}
-use Rattle.carol_history.specs.declared.outcome.Outcome.{Outcome}
-use Rattle.carol_history.specs.declared.outcome.Outcome.TheVariants as outcome
+use Rattle.carol_reading.specs.declared.outcome.Outcome.{Outcome}
+use Rattle.carol_reading.specs.declared.outcome.Outcome.TheVariants as outcome
 use Rattle.carol_history.specs.Acts.{Act, Did, Refused, acts, place}
 
 -- how the commands that are done came out, in order

@@ -4,9 +4,7 @@ ghost use Rattle.carol_program.specs.Scenes.{IsValidScene};
 ghost use Rattle.carol_program.specs.declared.scenes.Scene.{Scene};
 ghost use Rattle.carol_event.specs.declared.event.Event.{Event};
 ghost use Rattle.carol_history.specs.Runs.{Run};
-ghost use Rattle.carol_history.specs.Laws.{DoneIsNoneUnderWay, FewStayLow, ForcedIsLegal, ForcedIsSingle};
-ghost use Rattle.carol_history.specs.Laws.{GlobalGrows, HeldAreEntries, LiveAfter, LiveAreNamed, NamesWhatIs};
-ghost use Rattle.carol_history.specs.Laws.{OrdersAgree, PlaceIsBehind, ReplicasAgree, ScriptIsSingle, ScriptRuns};
+ghost use Rattle.carol_history.specs.Laws.{DoneIsNoneUnderWay, FewStayLow, ForcedIsLegal, ForcedIsSingle, GlobalGrows, HeldAreEntries, LiveAfter, LiveAreNamed, NamesWhatIs, OrdersAgree, PlaceIsBehind, ReplicasAgree, ScriptIsSingle, ScriptRuns};
 
 use carol_store::store_laws;
 

@@ -4,14 +4,14 @@
 //! `specs/` has a topic a file: journals and stores, links, what a session did, which event may
 //! come next, runs, the reading over one store, results, the one event that a session goes on with,
 //! what a script comes to, and the bound on events.
+//!
+//! Layer: machine. Cited by all that speaks of histories.
 #![tactic(auto)]
 
 mod history;
 mod laws;
-mod outcome;
 mod script;
 
 pub use history::MOST_EVENTS;
 pub use laws::history_laws;
-pub use outcome::Outcome;
 pub use script::{BadStatement, ScriptCause, Statement, StatementList};

@@ -1,8 +1,7 @@
 //! Marked entries: a bit each, 64 to a word, the lowest in the first. Past the last word none is
 //! marked.
 
-ghost use Rattle.std.specs.Prelude.{◌≡◌, ℕ, ◌+◌, ◌*◌, ◌<◌, ◌≤◌, ◌==◌, ◌||◌, true, false, length};
-ghost use Rattle.std.specs.Prelude.{get_or, max};
+ghost use Rattle.std.specs.Prelude.{◌≡◌, ℕ, ◌+◌, ◌*◌, ◌<◌, ◌≤◌, ◌==◌, ◌||◌, true, false, length, get_or, max};
 ghost use Rattle.std.specs.Vec.{vec_len, vec_capacity};
 ghost use Rattle.carol_holding.specs.Marked.{IsFirstBeyond, is_marked};
 

@@ -9,7 +9,7 @@ use Rattle.std.proofs.lemmas.Option.{same_Some, slice_get_cases, slice_get_withi
 use Rattle.carol_program.specs.declared.scenes.Scene.{Scene}
 use Rattle.carol_program.specs.declared.scenes.SessionPlan.{SessionPlan}
 use Rattle.carol_event.specs.declared.event.Event.{Event}
-use Rattle.carol_history.specs.declared.outcome.Outcome.TheVariants as outcome
+use Rattle.carol_reading.specs.declared.outcome.Outcome.TheVariants as outcome
 use Rattle.carol_history.specs.Acts.{UnderWay, acts}
 use Rattle.carol_history.specs.Laws.{DoneIsNoneUnderWay}
 use Rattle.carol_history.specs.Results.{AreDone, result}

@@ -56,6 +56,15 @@ abbrev pub HasNothingNew : House → ℕ → ℕ → Type 0
 HasNothingNew house source target =
     HoldsAllBelow house.scene source target (length (journal house.history)) house.history
 
+-- the lowest entry that the one replica holds and the other lacks is to be delivered; or there is
+-- none, or the two are not linked
+abbrev pub Offers : House → ℕ → ℕ → Gossip → Type 0
+Offers house source target (gossip.Delivered entry) =
+    IsGossip house.scene source target (event.Deliver source target entry) house.history
+Offers house source target gossip.NothingNew =
+    (is_linked source target house.history ≡ true) × HasNothingNew house source target
+Offers house source target gossip.CutOff = is_linked source target house.history ≡ false
+
 -- the lowest entry was delivered that the one replica holds and the other lacked; or there is none,
 -- or the two are not linked, and nothing changed
 abbrev pub Gossips : House → ℕ → ℕ → Gossip → House → Type 0

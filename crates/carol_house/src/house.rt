@@ -7,10 +7,10 @@ ghost use Rattle.carol_house.specs.Kept.{are_done};
 
 use crate::tables::Tables;
 use carol_event::Event;
-use carol_history::{Outcome, history_laws};
+use carol_history::history_laws;
 use carol_machine::Machine;
 use carol_program::{Program, Scene};
-use carol_reading::Accepted;
+use carol_reading::{Accepted, Outcome};
 use carol_simulation::simulation;
 use carol_store::Store;
 use std::alloc::{AllocError, Global};

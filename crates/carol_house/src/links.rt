@@ -3,10 +3,8 @@ ghost use Rattle.carol_program.specs.Limits.{most_replicas};
 ghost use Rattle.carol_history.specs.Links.{is_pair};
 ghost use Rattle.carol_house.specs.Kept.{are_joined};
 
+use carol_program::MOST_REPLICAS;
 use std::marker::Model;
-
-/// How many replicas there are at most.
-pub const MOST_REPLICAS: usize = 8;
 
 /// Which replicas are joined. Contracts see it as a row for each replica.
 #[derive(Drop)]

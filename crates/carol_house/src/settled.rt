@@ -2,8 +2,7 @@ ghost use Rattle.std.specs.Prelude.{◌≡◌, ℕ, ◌<◌, ◌==◌, ◌&&◌,
 ghost use Rattle.carol_program.specs.Limits.{most_guards, most_replicas};
 ghost use Rattle.carol_house.specs.Kept.{settled_below};
 
-use crate::links::MOST_REPLICAS;
-use carol_grant::MOST_GUARDS;
+use carol_program::{MOST_GUARDS, MOST_REPLICAS};
 use std::marker::Model;
 
 /// For each replica and guard an entry below which all are held or admitted. Contracts see it as a

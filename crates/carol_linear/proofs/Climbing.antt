@@ -7,18 +7,18 @@ use Rattle.std.proofs.Math.Bool.{or_assoc}
 use Rattle.carol_formula.specs.Bounds.{IsBelow, term_limit, value_limit}
 use Rattle.carol_formula.specs.Linear.{Linear}
 use Rattle.carol_formula.specs.Claim.{Claim, Le}
-use Rattle.carol_cert_rows.specs.declared.step.RowStep.{RowStep}
-use Rattle.carol_cert_rows.specs.declared.step.RowStep.TheVariants.{Given}
-use Rattle.carol_cert_rows.specs.Steps.{Closes}
+use Rattle.carol_cert.specs.declared.step.RowStep.{RowStep}
+use Rattle.carol_cert.specs.declared.step.RowStep.TheVariants.{Given}
+use Rattle.carol_cert.specs.Steps.{Closes}
 use Rattle.carol_cert.specs.Proof.{Proof, Branch, Rows, Unclosed, proof_of}
 use Rattle.carol_cert.specs.Counts.{turns_of, has_gap}
 use Rattle.carol_cert.specs.declared.tree.Refutation.{Refutation}
 use Rattle.carol_cert.proofs.Gaps.{no_gap}
-use Rattle.carol_linear_stage.specs.Due.{IsDue, IsDueFor}
-use Rattle.carol_linear_stage.specs.Stands.{Stand}
-use Rattle.carol_linear_stage.proofs.Standing.{stand_refl}
-use Rattle.carol_linear_leaf.specs.Names.{AreNamed}
-use Rattle.carol_linear_arena.specs.Entries.{terms_of}
+use Rattle.carol_elimination.specs.Due.{IsDue, IsDueFor}
+use Rattle.carol_elimination.specs.Stands.{Stand}
+use Rattle.carol_elimination.proofs.Standing.{stand_refl}
+use Rattle.carol_linear.specs.Names.{AreNamed}
+use Rattle.carol_elimination.specs.Entries.{terms_of}
 use Rattle.carol_linear.specs.Place.{Shows, with_rows, names_from}
 use Rattle.carol_linear.specs.Path.{side_row, frame_row, frame_rows, low_turns, turns_on, low_gap, gap_on, low_waits, waiting_on, IsRight, LowIsRight, Branches, ArePath}
 use Rattle.carol_linear.specs.Near.{row_with, name_with, Covers, near_rows, near_names, AreCovering}

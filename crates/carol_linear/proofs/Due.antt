@@ -8,16 +8,16 @@ use Rattle.carol_formula.specs.Linear.{Linear, coefficient_of}
 use Rattle.carol_formula.specs.Value.{sum_at, value_at}
 use Rattle.carol_formula.proofs.Orders.{by_order}
 use Rattle.carol_formula.proofs.Sums.{value_at-sum_of, value_at-scaled}
-use Rattle.carol_linear_stage.specs.Tightened.{divisor, content, divided, tightened}
-use Rattle.carol_linear_stage.specs.Stage.{Among, factor_of, is_positive, is_upper, multiplier, upper_part, lower_part, least, next, eliminated, with_variable, with_pairs, variables, first_stage, HasNoAbsurd}
-use Rattle.carol_linear_stage.specs.Values.{IsTrueRow, AreChosen}
-use Rattle.carol_linear_stage.specs.Due.{HasNoWhole, IsFloor, IsStuck, IsDueFor}
-use Rattle.carol_linear_stage.specs.Stands.{IsIdle, Dominates, IsDominated, Stand}
-use Rattle.carol_linear_stage.specs.Free.{IsIn, Ascend}
-use Rattle.carol_linear_stage.proofs.Rows.{among_map, map_among}
-use Rattle.carol_linear_stage.proofs.Standing.{dominates_tightened, upper_same, lower_same, lower_not_idle, dominating, stand_next, stand_eliminated}
-use Rattle.carol_linear_stage.proofs.Kept.{no_absurd_from, chosen_from, no_whole_from, floor_from}
-use Rattle.carol_linear_stage.proofs.Free.{variables_ascend}
+use Rattle.carol_elimination.specs.Tightened.{divisor, content, divided, tightened}
+use Rattle.carol_elimination.specs.Stage.{Among, factor_of, is_positive, is_upper, multiplier, upper_part, lower_part, least, next, eliminated, with_variable, with_pairs, variables, first_stage, HasNoAbsurd}
+use Rattle.carol_elimination.specs.Values.{IsTrueRow, AreChosen}
+use Rattle.carol_elimination.specs.Due.{HasNoWhole, IsFloor, IsStuck, IsDueFor}
+use Rattle.carol_elimination.specs.Stands.{IsIdle, Dominates, IsDominated, Stand}
+use Rattle.carol_elimination.specs.Free.{IsIn, Ascend}
+use Rattle.carol_elimination.proofs.Rows.{among_map, map_among}
+use Rattle.carol_elimination.proofs.Standing.{dominates_tightened, upper_same, lower_same, lower_not_idle, dominating, stand_next, stand_eliminated}
+use Rattle.carol_elimination.proofs.Kept.{no_absurd_from, chosen_from, no_whole_from, floor_from}
+use Rattle.carol_elimination.proofs.Free.{variables_ascend}
 
 -- ---- the variables
 

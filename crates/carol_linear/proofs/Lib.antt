@@ -1,3 +1,7 @@
+pub mod Making
+pub mod Marking
+pub mod Naming
+pub mod Following
 pub mod Places
 pub mod Paths
 pub mod Climbing

@@ -6,14 +6,14 @@ use Rattle.std.proofs.Math.Seq.{take-append_seam}
 use Rattle.carol_formula.specs.Linear.{Linear, constant_of}
 use Rattle.carol_formula.specs.Claim.{Claim, Le}
 use Rattle.carol_formula.specs.declared.term.Row.{Row}
-use Rattle.carol_cert_rows.specs.declared.step.RowStep.{RowStep}
-use Rattle.carol_cert_rows.specs.declared.step.RowStep.TheVariants.{Given}
-use Rattle.carol_linear_stage.specs.Stands.{Dominates, Stand}
-use Rattle.carol_linear_stage.specs.Derived.{row_at}
-use Rattle.carol_linear_leaf.specs.Names.{IsNamed, AreNamed}
-use Rattle.carol_linear_arena.specs.Entries.{terms_of}
-use Rattle.carol_linear_arena.proofs.Eliminating.{given_row}
-use Rattle.carol_linear_arena.proofs.Extending.{extend_new, extend_replaced}
+use Rattle.carol_cert.specs.declared.step.RowStep.{RowStep}
+use Rattle.carol_cert.specs.declared.step.RowStep.TheVariants.{Given}
+use Rattle.carol_elimination.specs.Stands.{Dominates, Stand}
+use Rattle.carol_elimination.specs.Derived.{row_at}
+use Rattle.carol_linear.specs.Names.{IsNamed, AreNamed}
+use Rattle.carol_elimination.specs.Entries.{terms_of}
+use Rattle.carol_elimination.proofs.Eliminating.{given_row}
+use Rattle.carol_elimination.proofs.Extending.{extend_new, extend_replaced}
 use Rattle.carol_linear.specs.Place.{with_rows}
 use Rattle.carol_linear.specs.Path.{frame_row, frame_rows}
 use Rattle.carol_linear.specs.Near.{row_with, name_with, Covers, Adds, rows_back, names_back, near_rows, near_names, AreCovering}

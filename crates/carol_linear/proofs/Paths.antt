@@ -5,10 +5,10 @@ use Rattle.std.proofs.lemmas.List.{length-take, take_more}
 use Rattle.std.proofs.Math.Bool.{or_assoc}
 use Rattle.carol_formula.specs.Linear.{Linear}
 use Rattle.carol_formula.specs.Claim.{Claim, Le}
-use Rattle.carol_cert_rows.specs.declared.step.RowStep.{RowStep}
-use Rattle.carol_cert_rows.specs.declared.step.RowStep.TheVariants.{Given}
+use Rattle.carol_cert.specs.declared.step.RowStep.{RowStep}
+use Rattle.carol_cert.specs.declared.step.RowStep.TheVariants.{Given}
 use Rattle.carol_cert.specs.declared.tree.Refutation.{Refutation}
-use Rattle.carol_linear_stage.specs.Due.{rows_at, IsDueFor, IsSide, ComeFromDue}
+use Rattle.carol_elimination.specs.Due.{rows_at, IsDueFor, IsSide, ComeFromDue}
 use Rattle.carol_linear.specs.Place.{with_rows, names_from}
 use Rattle.carol_linear.specs.Path.{side_row, frame_row, frame_rows, low_turns, turns_on, low_gap, gap_on, low_waits, waiting_on, Branches, ArePath}
 use Rattle.carol_linear.specs.declared.branch.Frame.{Frame}

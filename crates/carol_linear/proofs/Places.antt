@@ -5,14 +5,14 @@ use Rattle.std.proofs.lemmas.List.{append-nil, length_push, length-map, length-t
 use Rattle.carol_formula.specs.Linear.{Linear, scaled, constant_of}
 use Rattle.carol_formula.specs.Claim.{Claim, True, Le, Eq}
 use Rattle.carol_formula.specs.declared.term.Row.{Row}
-use Rattle.carol_cert_rows.specs.PlainRow.{row_of, negated}
-use Rattle.carol_cert_rows.specs.Steps.{IsRow, IsEquation, term_of}
-use Rattle.carol_cert_rows.specs.declared.step.RowStep.{RowStep}
-use Rattle.carol_cert_rows.specs.declared.step.RowStep.TheVariants.{Given, Reversed, Combine, Tighten}
-use Rattle.carol_cert_rows.proofs.Gets.{slice_get-appended}
-use Rattle.carol_linear_stage.specs.Due.{rows_at, AreRows}
-use Rattle.carol_linear_arena.specs.Entries.{terms_of}
-use Rattle.carol_linear_leaf.specs.Names.{IsNamed, AreNamed}
+use Rattle.carol_cert.specs.PlainRow.{row_of, negated}
+use Rattle.carol_cert.specs.Steps.{IsRow, IsEquation, term_of}
+use Rattle.carol_cert.specs.declared.step.RowStep.{RowStep}
+use Rattle.carol_cert.specs.declared.step.RowStep.TheVariants.{Given, Reversed, Combine, Tighten}
+use Rattle.carol_cert.proofs.Gets.{slice_get-appended}
+use Rattle.carol_elimination.specs.Due.{rows_at, AreRows}
+use Rattle.carol_elimination.specs.Entries.{terms_of}
+use Rattle.carol_linear.specs.Names.{IsNamed, AreNamed}
 use Rattle.carol_linear.specs.Place.{Shows, with_rows, names_from}
 
 -- ---- names

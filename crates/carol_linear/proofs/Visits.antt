@@ -5,12 +5,12 @@ use Rattle.carol_formula.specs.Linear.{Linear}
 use Rattle.carol_formula.specs.Numbers.{number_at}
 use Rattle.carol_formula.specs.Claim.{Claim}
 use Rattle.carol_formula.specs.declared.term.Row.{Row}
-use Rattle.carol_linear_stage.specs.Due.{ComeFromDue}
-use Rattle.carol_linear_stage.specs.Reasons.{IsWidePair}
-use Rattle.carol_linear_stage.proofs.Rows.{among_left}
-use Rattle.carol_linear_arena.specs.Entries.{terms_of}
-use Rattle.carol_linear_values.specs.Choosing.{AreMet}
-use Rattle.carol_linear_values.specs.Choosing.{IsFar as IsFarRow}
+use Rattle.carol_elimination.specs.Due.{ComeFromDue}
+use Rattle.carol_elimination.specs.Reasons.{IsWidePair}
+use Rattle.carol_elimination.proofs.Rows.{among_left}
+use Rattle.carol_elimination.specs.Entries.{terms_of}
+use Rattle.carol_elimination.specs.Choosing.{AreMet}
+use Rattle.carol_elimination.specs.Choosing.{IsFar as IsFarRow}
 use Rattle.carol_linear.specs.Path.{frame_rows}
 use Rattle.carol_linear.specs.Answer.{IsDerived, IsWide, IsFar}
 use Rattle.carol_linear.specs.State.{Start, Begins, all_rows, IsAt}

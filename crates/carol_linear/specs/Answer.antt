@@ -6,11 +6,11 @@ use Rattle.carol_formula.specs.Claim.{Claim}
 use Rattle.carol_cert.specs.Proof.{Proof, proof_of}
 use Rattle.carol_cert.specs.Refutes.{Refutes}
 use Rattle.carol_cert.specs.Counts.{turns_of, IsUnfinished}
-use Rattle.carol_linear_stage.specs.Due.{BranchesAreDue, ComeFromDue}
-use Rattle.carol_linear_stage.specs.Reasons.{IsWidePair}
-use Rattle.carol_linear_arena.specs.Entries.{terms_of}
-use Rattle.carol_linear_values.specs.Choosing.{IsDerivedBy, AreMet}
-use Rattle.carol_linear_values.specs.Choosing.{IsFar as IsFarRow}
+use Rattle.carol_elimination.specs.Due.{BranchesAreDue, ComeFromDue}
+use Rattle.carol_elimination.specs.Reasons.{IsWidePair}
+use Rattle.carol_elimination.specs.Entries.{terms_of}
+use Rattle.carol_elimination.specs.Choosing.{IsDerivedBy, AreMet}
+use Rattle.carol_elimination.specs.Choosing.{IsFar as IsFarRow}
 use Rattle.carol_linear.specs.declared.answer.Derived.{Derived}
 use Rattle.carol_linear.specs.declared.answer.RowsAnswer.{RowsAnswer}
 use Rattle.carol_linear.specs.declared.answer.RowsAnswer.TheVariants.{Refuted, Model, Spent, Wide, Far}

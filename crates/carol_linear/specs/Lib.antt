@@ -1,3 +1,5 @@
+pub mod Names
+pub mod Pruned
 pub mod Place
 pub mod Answer
 pub mod Path

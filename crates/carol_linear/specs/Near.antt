@@ -2,11 +2,11 @@
 use Rattle.std.specs.Prelude.{ℕ, ◌≡◌, ◌+◌, ◌-◌, ◌<◌, List, [], ◌∷◌, ◌++◌, length, take, slice_set, slice_index_or, Option, Some, None}
 use Rattle.carol_formula.specs.Linear.{Linear}
 use Rattle.carol_formula.specs.declared.term.Row.{Row}
-use Rattle.carol_cert_rows.specs.declared.step.RowStep.{RowStep}
-use Rattle.carol_cert_rows.specs.declared.step.RowStep.TheVariants.{Given}
-use Rattle.carol_linear_stage.specs.Stands.{Dominates}
-use Rattle.carol_linear_stage.specs.Derived.{row_at}
-use Rattle.carol_linear_arena.specs.Entries.{terms_of}
+use Rattle.carol_cert.specs.declared.step.RowStep.{RowStep}
+use Rattle.carol_cert.specs.declared.step.RowStep.TheVariants.{Given}
+use Rattle.carol_elimination.specs.Stands.{Dominates}
+use Rattle.carol_elimination.specs.Derived.{row_at}
+use Rattle.carol_elimination.specs.Entries.{terms_of}
 use Rattle.carol_linear.specs.Path.{frame_row}
 use Rattle.carol_linear.specs.declared.branch.Frame.{Frame}
 use Rattle.carol_linear.specs.declared.place.Covered.{Covered}

@@ -3,12 +3,12 @@ use Rattle.std.specs.Prelude.{ℕ, ◌+◌, Bool, false, ◌||◌, List, [], ◌
 use Rattle.carol_formula.specs.Bounds.{IsBelow, value_limit}
 use Rattle.carol_formula.specs.Linear.{Linear}
 use Rattle.carol_formula.specs.Claim.{Claim, Le}
-use Rattle.carol_cert_rows.specs.Cases.{at_most_number, at_least_number}
-use Rattle.carol_cert_rows.specs.Steps.{term_of}
+use Rattle.carol_cert.specs.Cases.{at_most_number, at_least_number}
+use Rattle.carol_cert.specs.Steps.{term_of}
 use Rattle.carol_cert.specs.Proof.{Proof, proof_of}
 use Rattle.carol_cert.specs.Counts.{turns_of, has_gap, GoesRight}
 use Rattle.carol_cert.specs.declared.tree.Refutation.{Refutation}
-use Rattle.carol_linear_stage.specs.Due.{IsDue, BranchesAreDue}
+use Rattle.carol_elimination.specs.Due.{IsDue, BranchesAreDue}
 use Rattle.carol_linear.specs.declared.branch.Frame.{Frame}
 
 -- ---- rows

@@ -2,10 +2,10 @@
 use Rattle.std.specs.Prelude.{ℕ, ◌≡◌, ◌+◌, List, [], ◌∷◌, ◌++◌, length}
 use Rattle.carol_formula.specs.Linear.{Linear}
 use Rattle.carol_formula.specs.Claim.{Claim, Le}
-use Rattle.carol_cert_rows.specs.declared.step.RowStep.{RowStep}
-use Rattle.carol_cert_rows.specs.declared.step.RowStep.TheVariants.{Given}
-use Rattle.carol_linear_stage.specs.Due.{rows_at, AreRows}
-use Rattle.carol_linear_leaf.specs.Names.{AreNamed}
+use Rattle.carol_cert.specs.declared.step.RowStep.{RowStep}
+use Rattle.carol_cert.specs.declared.step.RowStep.TheVariants.{Given}
+use Rattle.carol_elimination.specs.Due.{rows_at, AreRows}
+use Rattle.carol_linear.specs.Names.{AreNamed}
 
 -- so many claims have these rows, each with the name that takes it from them
 pub record Shows (claims : List Claim) (rows : List Linear) (names : List RowStep) (count : ℕ) : Type 0 where

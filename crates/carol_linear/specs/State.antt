@@ -2,13 +2,13 @@
 use Rattle.std.specs.Prelude.{ℕ, ◌≡◌, ◌+◌, ◌*◌, ◌||◌, List, [], ◌∷◌, ◌++◌, length, Option, Some, None, IsTrue}
 use Rattle.carol_formula.specs.Linear.{Linear}
 use Rattle.carol_formula.specs.Claim.{Claim}
-use Rattle.carol_cert_rows.specs.declared.step.RowStep.{RowStep}
-use Rattle.carol_cert_rows.specs.declared.step.RowStep.TheVariants.{Given}
+use Rattle.carol_cert.specs.declared.step.RowStep.{RowStep}
+use Rattle.carol_cert.specs.declared.step.RowStep.TheVariants.{Given}
 use Rattle.carol_cert.specs.Proof.{Proof, proof_of}
 use Rattle.carol_cert.specs.Counts.{turns_of, has_gap}
 use Rattle.carol_cert.specs.declared.tree.Refutation.{Refutation}
-use Rattle.carol_linear_arena.specs.Entries.{terms_of}
-use Rattle.carol_cert_rows.specs.Steps.{Closes}
+use Rattle.carol_elimination.specs.Entries.{terms_of}
+use Rattle.carol_cert.specs.Steps.{Closes}
 use Rattle.carol_linear.specs.Place.{Shows, with_rows}
 use Rattle.carol_linear.specs.Path.{frame_row, frame_rows, turns_on, gap_on, waiting_on, IsRight, ArePath}
 use Rattle.carol_linear.specs.Near.{Adds, rows_back, names_back, near_rows, near_names, AreCovering}

@@ -3,12 +3,12 @@ use Rattle.std.specs.Prelude.{◌≡◌, List, None}
 use Rattle.carol_formula.specs.Linear.{Linear}
 use Rattle.carol_formula.specs.Numbers.{number_at}
 use Rattle.carol_formula.specs.Claim.{Claim}
-use Rattle.carol_cert_rows.specs.declared.step.RowStep.{RowStep}
-use Rattle.carol_cert_rows.specs.Steps.{Closes}
-use Rattle.carol_linear_stage.specs.Due.{IsDueFor}
-use Rattle.carol_linear_stage.specs.Reasons.{IsWidePair}
-use Rattle.carol_linear_leaf.specs.Names.{AreNamed}
-use Rattle.carol_linear_values.specs.Choosing.{AreMet, IsFar}
+use Rattle.carol_cert.specs.declared.step.RowStep.{RowStep}
+use Rattle.carol_cert.specs.Steps.{Closes}
+use Rattle.carol_elimination.specs.Due.{IsDueFor}
+use Rattle.carol_elimination.specs.Reasons.{IsWidePair}
+use Rattle.carol_linear.specs.Names.{AreNamed}
+use Rattle.carol_elimination.specs.Choosing.{AreMet, IsFar}
 use Rattle.carol_linear.specs.Answer.{IsDerived}
 use Rattle.carol_linear.specs.declared.visit.Visit.{Visit}
 use Rattle.carol_linear.specs.declared.visit.Visit.TheVariants.{Closed, Branch, Model, Wide, Far}

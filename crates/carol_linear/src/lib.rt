@@ -1,25 +1,21 @@
 //! A decision procedure for rows of whole numbers: elimination of variables, values for them, and
 //! branches where a variable has no whole number between its bounds. Each answer carries its
-//! evidence.
+//! evidence. What closes rows is a leaf over the claims that the rows stand for, without the steps
+//! that the last row doesn't need.
+//!
+//! Layer: solver. Called by `carol_decide`.
 #![tactic(auto)]
 
 ghost use Rattle.std.specs.Prelude.{◌≡◌, ℕ, ◌≤◌, ◌^◌, List, length, map, IfOk};
 ghost use Rattle.carol_formula.specs.Claim.{Claim, Le};
-ghost use Rattle.carol_linear_arena.specs.Entries.{terms_of};
-ghost use Rattle.carol_linear_stage.specs.Due.{rows_at, AreRows};
-ghost use Rattle.carol_linear_leaf.specs.Names.{AreNamed};
+ghost use Rattle.carol_elimination.specs.Entries.{terms_of};
+ghost use Rattle.carol_elimination.specs.Due.{rows_at, AreRows};
+ghost use Rattle.carol_linear.specs.Names.{AreNamed};
 ghost use Rattle.carol_linear.specs.Answer.{IsAnswer};
 ghost use Rattle.carol_linear.specs.Place.{names_from};
 
-mod answer;
-mod branch;
-mod place;
-mod state;
-mod visit;
-
 use crate::state::State;
-pub use answer::{Derived, Far, RowList, RowsAnswer, Wide};
-use carol_cert_rows::RowStep;
+use carol_cert::RowStep;
 use carol_formula::Row;
 use std::alloc::{AllocError, Global};
 
@@ -67,3 +63,13 @@ pub fn search(
         }
     }
 }
+
+mod answer;
+mod branch;
+mod place;
+mod pruning;
+mod state;
+mod visit;
+
+pub use answer::{Derived, Far, RowList, RowsAnswer, Wide};
+pub use pruning::leaf;

@@ -1,10 +1,10 @@
 ghost use Rattle.std.specs.Prelude.{◌≡◌, ◌<◌, ◌↔◌, length, IfOk, IfSome, IsTrue, OnOk};
-ghost use Rattle.carol_linear_stage.specs.Stands.{Dominates};
-ghost use Rattle.carol_linear_stage.specs.Derived.{row_at};
-ghost use Rattle.carol_linear_arena.specs.Entries.{terms_of};
+ghost use Rattle.carol_elimination.specs.Stands.{Dominates};
+ghost use Rattle.carol_elimination.specs.Derived.{row_at};
+ghost use Rattle.carol_elimination.specs.Entries.{terms_of};
 ghost use Rattle.carol_linear.specs.Near.{Adds, rows_back, names_back};
 
-use carol_cert_rows::RowStep;
+use carol_cert::RowStep;
 use carol_formula::{Row, Variable};
 use std::alloc::{AllocError, Global};
 use std::mem;

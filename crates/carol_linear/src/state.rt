@@ -1,8 +1,8 @@
 ghost use Rattle.std.specs.Prelude.{◌≡◌, ◌<◌, ◌+◌, ◌^◌, ◌++◌, None, IfOk, OnOk, IfNone, IfSome};
 ghost use Rattle.carol_cert.specs.Proof.{proof_of};
-ghost use Rattle.carol_cert_rows.specs.declared.step.RowStep.TheVariants.{Given};
-ghost use Rattle.carol_linear_arena.specs.Entries.{terms_of};
-ghost use Rattle.carol_linear_stage.specs.Due.{IsDueFor};
+ghost use Rattle.carol_cert.specs.declared.step.RowStep.TheVariants.{Given};
+ghost use Rattle.carol_elimination.specs.Entries.{terms_of};
+ghost use Rattle.carol_elimination.specs.Due.{IsDueFor};
 ghost use Rattle.carol_linear.specs.Path.{frame_rows, waiting_on};
 ghost use Rattle.carol_linear.specs.Place.{names_from};
 ghost use Rattle.carol_linear.specs.State.{Start, IsAt, IsUnder, IsAbove, IsNext, CloseAt, HasEntered, HasLeft, Stays, all_rows, rank_of};
@@ -11,8 +11,7 @@ use crate::answer::{Far, RowList, RowsAnswer, Wide};
 use crate::branch::{Frame, branch};
 use crate::place::Place;
 use crate::visit::{Visit, visit_place};
-use carol_cert::Refutation;
-use carol_cert_rows::{RowStep, StepList};
+use carol_cert::{Refutation, RowStep, StepList};
 use carol_formula::Row;
 use std::alloc::{AllocError, Global};
 

@@ -1,19 +1,18 @@
 ghost use Rattle.std.specs.Prelude.{◌≡◌, ◌<◌, ◌^◌, List, length, IfOk};
 ghost use Rattle.carol_formula.specs.Linear.{Linear};
-ghost use Rattle.carol_linear_stage.specs.Stage.{variables as all_variables};
-ghost use Rattle.carol_linear_stage.specs.Derived.{AreDerived};
-ghost use Rattle.carol_linear_arena.specs.Entries.{terms_of, row_in};
+ghost use Rattle.carol_elimination.specs.Stage.{variables as all_variables};
+ghost use Rattle.carol_elimination.specs.Derived.{AreDerived};
+ghost use Rattle.carol_elimination.specs.Entries.{terms_of, row_in};
 ghost use Rattle.carol_linear.specs.Answer.{IsDerived};
 ghost use Rattle.carol_linear.specs.Visit.{IsVisit};
-ghost use Rattle.carol_linear_arena.specs.Outcome.{IsQuietOutcome};
+ghost use Rattle.carol_elimination.specs.Outcome.{IsQuietOutcome};
 
 use crate::answer::Derived;
 use crate::branch::Frame;
-use carol_cert_rows::{RowStep, StepList};
+use crate::leaf;
+use carol_cert::{RowStep, StepList};
+use carol_elimination::{Arena, Choice, Elimination, Outcome, choose, eliminate, variables_of};
 use carol_formula::{Row, Valuation, Variable};
-use carol_linear_arena::{Arena, Elimination, Outcome, eliminate, variables_of};
-use carol_linear_leaf::leaf;
-use carol_linear_values::{Choice, choose};
 use std::alloc::{AllocError, Global};
 
 /// What there is at a place.

@@ -8,8 +8,8 @@ use Rattle.carol_reading.specs.Marks.{Mark, Asked, Issued, Released, Returned, q
 use Rattle.carol_program.specs.Limits.{most_guards}
 use Rattle.carol_program.specs.declared.scenes.SessionPlan.{SessionPlan}
 use Rattle.carol_event.specs.declared.event.Cause.{Cause}
-use Rattle.carol_history.specs.declared.outcome.Outcome.{Outcome}
-use Rattle.carol_history.specs.declared.outcome.Outcome.TheVariants as outcome
+use Rattle.carol_reading.specs.declared.outcome.Outcome.{Outcome}
+use Rattle.carol_reading.specs.declared.outcome.Outcome.TheVariants as outcome
 use Rattle.carol_history.specs.Acts.{Act, Granted, Did, Refused, Place, attempt, has_grant, marks, place}
 use Rattle.carol_history.specs.Results.{outcomes}
 use Rattle.carol_machine.specs.declared.fed.Fed.TheVariants as fed

@@ -8,8 +8,8 @@ use Rattle.carol_reading.specs.Good.{MayLeave}
 use Rattle.carol_reading.specs.Marks.{Mark, Asked, Issued, Released, Returned}
 use Rattle.carol_reading.specs.Walks.{BringsTo}
 use Rattle.carol_event.specs.declared.event.Cause.{Cause}
-use Rattle.carol_history.specs.declared.outcome.Outcome.{Outcome}
-use Rattle.carol_history.specs.declared.outcome.Outcome.TheVariants as outcome
+use Rattle.carol_reading.specs.declared.outcome.Outcome.{Outcome}
+use Rattle.carol_reading.specs.declared.outcome.Outcome.TheVariants as outcome
 use Rattle.carol_history.specs.Acts.{Act, Granted, Did, Refused}
 use Rattle.carol_machine.specs.declared.fed.Fed.{Fed}
 use Rattle.carol_machine.specs.declared.fed.Fed.TheVariants as fed

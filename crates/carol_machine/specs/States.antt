@@ -5,7 +5,7 @@ use Rattle.carol_program.specs.declared.scenes.Command.{Command}
 use Rattle.carol_program.specs.declared.scenes.SessionPlan.{SessionPlan}
 use Rattle.carol_reading.specs.Marks.{queried}
 use Rattle.carol_reading.specs.Walks.{Progress}
-use Rattle.carol_history.specs.declared.outcome.Outcome.{Outcome}
+use Rattle.carol_reading.specs.declared.outcome.Outcome.{Outcome}
 use Rattle.carol_history.specs.Acts.{Act, Place, attempt, has_grant, marks, place}
 use Rattle.carol_history.specs.Results.{outcomes}
 

@@ -1,4 +1,6 @@
 //! One session over its plan of commands: what it goes on with, and where each act brings it.
+//!
+//! Layer: machine. Called by `carol_house`.
 #![tactic(auto)]
 
 mod fed;

@@ -1,29 +1,20 @@
-ghost use Rattle.std.specs.Prelude.{◌≡◌, ◌+◌, ◌<◌, ◌≤◌, ℕ, false, List, [], ◌∷◌, length};
-ghost use Rattle.std.specs.Prelude.{get_or, IfOk};
-ghost use Rattle.carol_program.specs.Limits.{most_commands, most_guards, most_queries};
-ghost use Rattle.carol_program.specs.Limits.{most_statements, most_tries};
+ghost use Rattle.std.specs.Prelude.{◌≡◌, ◌+◌, ◌<◌, ◌≤◌, ℕ, false, List, [], ◌∷◌, length, get_or, IfOk};
+ghost use Rattle.carol_program.specs.Limits.{most_commands, most_guards, most_queries, most_statements, most_tries};
 ghost use Rattle.carol_program.specs.Rules.{rules_in};
 ghost use Rattle.carol_program.specs.Scenes.{IsPlanOf};
-ghost use Rattle.carol_history.specs.declared.outcome.Outcome.TheVariants as outcome;
+ghost use Rattle.carol_reading.specs.declared.outcome.Outcome.TheVariants as outcome;
 ghost use Rattle.carol_history.specs.Acts.{Act};
-ghost use Rattle.carol_machine.specs.Feeds.{IsActOf, MayBeFed, with_attempt, with_close};
-ghost use Rattle.carol_machine.specs.Feeds.{with_grant, with_outcome, with_refusal, with_store};
+ghost use Rattle.carol_machine.specs.Feeds.{IsActOf, MayBeFed, with_attempt, with_close, with_grant, with_outcome, with_refusal, with_store};
 ghost use Rattle.carol_machine.specs.States.{IsAt, present_in, state_of};
-ghost use Rattle.carol_machine.specs.Wishes.{IsInOrder, IsWishOf, ReadsSoFar, StandsWell};
-ghost use Rattle.carol_machine.specs.Wishes.{wish_of, wish_to_query};
+ghost use Rattle.carol_machine.specs.Wishes.{IsInOrder, IsWishOf, ReadsSoFar, StandsWell, wish_of, wish_to_query};
 
 use crate::fed::Fed;
 use crate::wish::Wish;
-use carol_event::Cause;
-use carol_history::Outcome;
-use carol_program::SessionPlan;
-use carol_reading::{Accepted, Action, Walk, next_action};
+use carol_program::{MOST_GUARDS, SessionPlan};
+use carol_reading::{Accepted, Action, Cause, Outcome, Walk, next_action};
 use carol_store::Store;
 use std::alloc::{AllocError, Global};
 use std::marker::Model;
-
-// How many guards a program has at most.
-const MOST_GUARDS: usize = 16;
 
 /// The state of one session over its plan of commands.
 #[derive(Drop)]

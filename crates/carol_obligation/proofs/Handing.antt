@@ -8,7 +8,7 @@ use Rattle.carol_program.specs.declared.program.Op.{Op}
 use Rattle.carol_program.specs.Limits.{most_ops}
 use Rattle.carol_program.specs.Rules.{Rules, op_rules}
 use Rattle.carol_program.specs.WellFormed.{IsOpOver}
-use Rattle.carol_obligation_sites.specs.Places.{obligations_at, obligations_from, obligations_of}
+use Rattle.carol_obligation.specs.Places.{obligations_at, obligations_from, obligations_of}
 use Rattle.carol_obligation.specs.Passing.{Passes}
 use Rattle.carol_obligation.proofs.Gathering.{Gathered, gathered_more}
 

@@ -9,15 +9,15 @@ use Rattle.carol_formula.specs.Claim.{Claim, True, False, Le, Eq, Ne, And, Or, N
 use Rattle.carol_formula.specs.Linear.{Linear, IsWithin, difference_of, variable_of}
 use Rattle.carol_formula.specs.Weight.{mass, weight}
 use Rattle.carol_formula.proofs.Weights.{weight-difference_of, weight-sum_of, IsWithin-weight}
-use Rattle.carol_renaming.specs.Named.{AllNamed, IsNameable, IsNameableClaim, named_mass, named_weight}
+use Rattle.carol_formula.specs.Named.{AllNamed, IsNameable, IsNameableClaim, named_mass, named_weight}
 use Rattle.carol_program.specs.declared.steps.Part.{Part}
 use Rattle.carol_program.specs.Rules.{Rules}
 use Rattle.carol_program.specs.Limits.{most_queries, most_statements}
 use Rattle.carol_program.specs.Variables.{IsAmong, AreAmong, guard_variables, invariant_variables, outcome_variables}
 use Rattle.carol_program.specs.WellFormed.{AreRules, AreSmall, IsTermOver, IsPartOver}
 use Rattle.carol_reading.specs.Readings.{amount_for}
-use Rattle.carol_obligation_sites.specs.Decoded.{round_variable}
-use Rattle.carol_obligation_sites.specs.Formed.{round_name, guard_name, done_name, cell_name, after_name, result_name}
+use Rattle.carol_obligation.specs.Decoded.{round_variable}
+use Rattle.carol_obligation.specs.Formed.{round_name, guard_name, done_name, cell_name, after_name, result_name}
 use Rattle.carol_obligation.specs.Budget.{AreLightParts, amount_limit}
 
 pub IsWithin-difference : (limit : ℕ) (s t : Linear) → weight s + weight t < limit → IsWithin limit (difference_of s t)
@@ -116,18 +116,18 @@ nameable can name ranges (Not a) h each = nameable can name ranges a h each
 
 -- ---- the variables of a program's formulas have light terms
 
-pub round_named : (round n : ℕ) → n ≤ 16 → round ≤ most_statements → HaveNames (λ v. (v < 16) × (round ≤ most_statements)) (round_name round) (invariant_variables n)
-round_named round n few le v (inl h) = ((omega (arith, h.1, few), le), omega arith)
-round_named round n few le v (inr h) = absurd h
+pub round_named : (round : ℕ) (cells : List CellKind) → length cells ≤ 16 → round ≤ most_statements → HaveNames (λ v. (v < 16) × (round ≤ most_statements)) (round_name round) (invariant_variables cells)
+round_named round cells few le v (inl h) = ((omega (arith, h.1, few), le), omega arith)
+round_named round cells few le v (inr h) = absurd h
 
-pub guard_named : (slot round n : ℕ) → n ≤ 16 → slot < most_queries → round ≤ most_statements → HaveNames (λ v. (v < 32) × (slot < most_queries) × (round ≤ most_statements)) (guard_name slot round) (guard_variables n)
-guard_named slot round n few s le v (inl h) = ((omega (arith, h.1, few), s, le), light_here_there slot round v)
-guard_named slot round n few s le v (inr (inl h)) = ((omega (arith, h.1, few), s, le), light_here_there slot round v)
-guard_named slot round n few s le v (inr (inr h)) = absurd h
+pub guard_named : (slot round : ℕ) (cells : List CellKind) → length cells ≤ 16 → slot < most_queries → round ≤ most_statements → HaveNames (λ v. (v < 32) × (slot < most_queries) × (round ≤ most_statements)) (guard_name slot round) (guard_variables cells)
+guard_named slot round cells few s le v (inl h) = ((omega (arith, h.1, few), s, le), light_here_there slot round v)
+guard_named slot round cells few s le v (inr (inl h)) = ((omega (arith, h.1, few), s, le), light_here_there slot round v)
+guard_named slot round cells few s le v (inr (inr h)) = absurd h
 
-pub after_named : (kinds : List CellKind) (parts : List Part) (round n : ℕ) → n ≤ 16 → round ≤ most_statements → AreLightParts parts → HaveNames (λ v. (v < 16) × (round ≤ most_statements) × AreLightParts parts) (after_name kinds parts round) (invariant_variables n)
-after_named kinds parts round n few le light v (inl h) = ((omega (arith, h.1, few), le, light), light_after kinds parts round v light)
-after_named kinds parts round n few le light v (inr h) = absurd h
+pub after_named : (kinds : List CellKind) (parts : List Part) (round : ℕ) (cells : List CellKind) → length cells ≤ 16 → round ≤ most_statements → AreLightParts parts → HaveNames (λ v. (v < 16) × (round ≤ most_statements) × AreLightParts parts) (after_name kinds parts round) (invariant_variables cells)
+after_named kinds parts round cells few le light v (inl h) = ((omega (arith, h.1, few), le, light), light_after kinds parts round v light)
+after_named kinds parts round cells few le light v (inr h) = absurd h
 
 pub result_named : (value : Linear) (n : ℕ) → weight value < amount_limit → HaveNames (λ v. ⊤) (result_name value) (outcome_variables n)
 result_named value n light v h = (tt, light_result value v light)
@@ -135,13 +135,13 @@ result_named value n light v h = (tt, light_result value v light)
 -- ---- so the formulas of a program can be renamed
 
 pub nameable_round : (p : Rules) (round : ℕ) → AreRules p → round ≤ most_statements → IsNameableClaim (λ v. (v < 16) × (round ≤ most_statements)) (round_name round) p.invariant
-nameable_round p round rules le = nameable (λ v. (v < 16) × (round ≤ most_statements)) (round_name round) (invariant_variables (length p.shape)) p.invariant (round_named round (length p.shape) rules.few_cells le) rules.invariant.terms
+nameable_round p round rules le = nameable (λ v. (v < 16) × (round ≤ most_statements)) (round_name round) (invariant_variables p.shape) p.invariant (round_named round p.shape rules.few_cells le) rules.invariant.terms
 
-pub nameable_guard : (n slot round : ℕ) (guard : Claim) → n ≤ 16 → slot < most_queries → round ≤ most_statements → EachTerm (IsTermOver (guard_variables n)) guard → IsNameableClaim (λ v. (v < 32) × (slot < most_queries) × (round ≤ most_statements)) (guard_name slot round) guard
-nameable_guard n slot round guard few s le each = nameable (λ v. (v < 32) × (slot < most_queries) × (round ≤ most_statements)) (guard_name slot round) (guard_variables n) guard (guard_named slot round n few s le) each
+pub nameable_guard : (cells : List CellKind) (slot round : ℕ) (guard : Claim) → length cells ≤ 16 → slot < most_queries → round ≤ most_statements → EachTerm (IsTermOver (guard_variables cells)) guard → IsNameableClaim (λ v. (v < 32) × (slot < most_queries) × (round ≤ most_statements)) (guard_name slot round) guard
+nameable_guard cells slot round guard few s le each = nameable (λ v. (v < 32) × (slot < most_queries) × (round ≤ most_statements)) (guard_name slot round) (guard_variables cells) guard (guard_named slot round cells few s le) each
 
 pub nameable_after : (p : Rules) (kinds : List CellKind) (parts : List Part) (round : ℕ) → AreRules p → round ≤ most_statements → AreLightParts parts → IsNameableClaim (λ v. (v < 16) × (round ≤ most_statements) × AreLightParts parts) (after_name kinds parts round) p.invariant
-nameable_after p kinds parts round rules le light = nameable (λ v. (v < 16) × (round ≤ most_statements) × AreLightParts parts) (after_name kinds parts round) (invariant_variables (length p.shape)) p.invariant (after_named kinds parts round (length p.shape) rules.few_cells le light) rules.invariant.terms
+nameable_after p kinds parts round rules le light = nameable (λ v. (v < 16) × (round ≤ most_statements) × AreLightParts parts) (after_name kinds parts round) (invariant_variables p.shape) p.invariant (after_named kinds parts round p.shape rules.few_cells le light) rules.invariant.terms
 
 pub nameable_result : (value : Linear) (n : ℕ) (c : Claim) → weight value < amount_limit → EachTerm (IsTermOver (outcome_variables n)) c → IsNameableClaim (λ v. ⊤) (result_name value) c
 nameable_result value n c light each = nameable (λ v. ⊤) (result_name value) (outcome_variables n) c (result_named value n light) each

@@ -11,10 +11,10 @@ use Rattle.carol_program.specs.Limits.{most_cells}
 use Rattle.carol_program.specs.declared.steps.Step.{Step, size-Step}
 use Rattle.carol_program.specs.declared.places.Place.{Place}
 use Rattle.carol_program.specs.Rules.{Rules, OpRules}
-use Rattle.carol_renaming.specs.Named.{named_claim}
-use Rattle.carol_obligation_sites.specs.Sites.{After}
+use Rattle.carol_formula.specs.Named.{named_claim}
+use Rattle.carol_obligation.specs.Sites.{After}
 use Rattle.carol_program.specs.declared.steps.Part.{Part}
-use Rattle.carol_obligation_sites.specs.Formed.{after_name, owed, with_flags, with_round, with_ties}
+use Rattle.carol_obligation.specs.Formed.{after_name, owed, with_flags, with_round, with_ties}
 use Rattle.carol_obligation.specs.Budget.{AreLightParts}
 use Rattle.carol_obligation.specs.Collected.{Point, amounts_owed, issue_owed, collected, behind_query, behind_closing, behind_test}
 use Rattle.carol_obligation.specs.Ready.{IsReady}

@@ -9,10 +9,10 @@ use Rattle.carol_program.specs.declared.places.Place.{Place}
 use Rattle.carol_program.specs.declared.steps.Part.{Part}
 use Rattle.carol_program.specs.Bodies.{Body, Query, Issue, Release, Branch, Return}
 use Rattle.carol_program.specs.Rules.{Rules, OpRules}
-use Rattle.carol_obligation_sites.specs.Ways.{Way, Asks, Puts, Frees, Tests, rounds_of, has_query}
-use Rattle.carol_obligation_sites.specs.Sites.{After, Site, amount_site, amount_sites, sites}
-use Rattle.carol_obligation_sites.specs.Formed.{known_along, with_all}
-use Rattle.carol_obligation_sites.specs.Places.{obligation_of, obligations_at}
+use Rattle.carol_obligation.specs.Ways.{Way, Asks, Puts, Frees, Tests, rounds_of, has_query}
+use Rattle.carol_obligation.specs.Sites.{After, Site, amount_site, amount_sites, sites}
+use Rattle.carol_obligation.specs.Formed.{known_along, with_all}
+use Rattle.carol_obligation.specs.Places.{obligation_of, obligations_at}
 use Rattle.carol_obligation.specs.Collected.{Point, amount_owed, amounts_owed, collected}
 use Rattle.carol_obligation.specs.Passing.{Passes}
 

@@ -8,16 +8,16 @@ use Rattle.carol_formula.specs.Claim.{Claim, True, False, Le, Eq, Ne, And, Or, N
 use Rattle.carol_formula.specs.Linear.{Linear, constant_of, variable_of}
 use Rattle.carol_formula.specs.Weight.{weight}
 use Rattle.carol_formula.proofs.Weights.{weight-difference_of, weight-sum_of}
-use Rattle.carol_renaming.specs.Named.{named_claim, named_term}
-use Rattle.carol_renaming.proofs.Renaming.{weight-named_term}
+use Rattle.carol_formula.specs.Named.{named_claim, named_term}
+use Rattle.carol_formula.proofs.Renamings.{weight-named_term}
 use Rattle.carol_program.specs.declared.steps.Part.{Part}
 use Rattle.carol_program.specs.Rules.{Rules, OpRules}
 use Rattle.carol_program.specs.WellFormed.{nodes, AreRules, IsTermOver, IsFormulaOver}
 use Rattle.carol_program.specs.Limits.{most_cells, most_queries, most_statements}
 use Rattle.carol_program.specs.Variables.{guard_variables, invariant_variables, outcome_variables, query_variable}
-use Rattle.carol_obligation_sites.specs.Decoded.{round_variable}
-use Rattle.carol_obligation_sites.specs.Sites.{Ending, Amount, After, Gives}
-use Rattle.carol_obligation_sites.specs.Formed.{at_most, with_flags, with_round, with_query, guard_at, with_test, too_large, tie, with_tie, with_ties, broken, owed, round_name, guard_name, after_name, result_name}
+use Rattle.carol_obligation.specs.Decoded.{round_variable}
+use Rattle.carol_obligation.specs.Sites.{Ending, Amount, After, Gives}
+use Rattle.carol_obligation.specs.Formed.{at_most, with_flags, with_round, with_query, guard_at, with_test, too_large, tie, with_tie, with_ties, broken, owed, round_name, guard_name, after_name, result_name}
 use Rattle.carol_obligation.specs.Budget.{light_limit, amount_limit, IsLightTerm, IsLight, IsDecidable, AreLightParts, AreSmallParts, round_nodes, test_nodes}
 use Rattle.carol_obligation.proofs.Light.{HaveNames, light_term, named_light, round_named, guard_named, after_named, result_named}
 
@@ -84,14 +84,14 @@ with_stored kinds base known c few light small =
 pub grows_round : (p : Rules) (round : ℕ) (known : Claim) → AreRules p → round ≤ most_statements → Grows known round_nodes (with_round p round known)
 grows_round p round known rules le =
     with_stored p.shape (round_variable round 0) known (named_claim (round_name round) p.invariant) rules.few_cells
-    (light-named_claim _ (round_name round) (invariant_variables (length p.shape)) p.invariant (round_named round (length p.shape) rules.few_cells le) rules.invariant.terms)
+    (light-named_claim _ (round_name round) (invariant_variables p.shape) p.invariant (round_named round p.shape rules.few_cells le) rules.invariant.terms)
     (omega (arith, nodes-named_claim (round_name round) p.invariant, rules.invariant.few))
 
-grows_guard : (p : Rules) (o : Option Claim) (slot round : ℕ) (known : Claim) → AreRules p → slot < most_queries → round ≤ most_statements → IsSomeAnd o (IsFormulaOver (guard_variables (length p.shape))) → Grows known round_nodes (guard_at p o slot round known)
+grows_guard : (p : Rules) (o : Option Claim) (slot round : ℕ) (known : Claim) → AreRules p → slot < most_queries → round ≤ most_statements → IsSomeAnd o (IsFormulaOver (guard_variables p.shape)) → Grows known round_nodes (guard_at p o slot round known)
 grows_guard p None slot round known rules s le h = absurd h
 grows_guard p (Some c) slot round known rules s le h =
     with_stored p.shape (query_variable slot 0) known (named_claim (guard_name slot round) c) rules.few_cells
-    (light-named_claim _ (guard_name slot round) (guard_variables (length p.shape)) c (guard_named slot round (length p.shape) rules.few_cells s le) h.terms)
+    (light-named_claim _ (guard_name slot round) (guard_variables p.shape) c (guard_named slot round p.shape rules.few_cells s le) h.terms)
     (omega (arith, nodes-named_claim (guard_name slot round) c, h.few))
 
 -- what holds of each holds of the one with this number
@@ -101,7 +101,7 @@ each_at P (x ∷ xs) zero h lt = h.0
 each_at P (x ∷ xs) (suc i) h lt = each_at P xs i h.1 (omega (arith, lt))
 
 pub grows_query : (p : Rules) (guard slot round : ℕ) (known : Claim) → AreRules p → guard < length p.guards → slot < most_queries → round ≤ most_statements → Grows known round_nodes (with_query p guard slot round known)
-grows_query p guard slot round known rules lt s le = grows_guard p (slice_get p.guards guard) slot round known rules s le (each_at (IsFormulaOver (guard_variables (length p.shape))) p.guards guard rules.guards lt)
+grows_query p guard slot round known rules lt s le = grows_guard p (slice_get p.guards guard) slot round known rules s le (each_at (IsFormulaOver (guard_variables p.shape)) p.guards guard rules.guards lt)
 
 light_own : (ranges : List (ℕ × ℕ)) (t : Linear) → IsTermOver ranges t → IsLightTerm t
 light_own ranges t h = omega (arith, light_term ranges t h)
@@ -160,7 +160,7 @@ grows_broken p op round params (Amount atom kind part) known rules le over h =
 grows_broken p op round params (After parts) known rules le over h =
     let name = after_name p.shape parts round in
     let ties = grows_ties p.shape round parts known h.light in
-    let light = light-named_claim _ name (invariant_variables (length p.shape)) p.invariant (after_named p.shape parts round (length p.shape) rules.few_cells le h.light) rules.invariant.terms in
+    let light = light-named_claim _ name (invariant_variables p.shape) p.invariant (after_named p.shape parts round p.shape rules.few_cells le h.light) rules.invariant.terms in
     record { light = λ l. (ties.light l, light); few = omega (arith, ties.few, h.few, nodes-named_claim name p.invariant, rules.invariant.few) }
 grows_broken p op round params (Gives value) known rules le over h =
     let name = result_name value in

@@ -8,7 +8,7 @@ use Rattle.carol_program.specs.Bodies.{Body, Query, Issue, Release, Branch, Retu
 use Rattle.carol_program.specs.Rules.{Rules, OpRules}
 use Rattle.carol_program.specs.Variables.{param_variables}
 use Rattle.carol_program.specs.WellFormed.{nodes, setting_of, variables_in, AreRefinements, AreRules, IsFitBody, IsOpOver, RisesFrom, SlotsFrom}
-use Rattle.carol_obligation_sites.specs.Formed.{with_all, with_closing}
+use Rattle.carol_obligation.specs.Formed.{with_all, with_closing}
 use Rattle.carol_obligation.specs.Budget.{reserve, cost, most_known, round_nodes}
 use Rattle.carol_obligation.specs.Collected.{Point, behind_query, behind_closing, behind_test}
 use Rattle.carol_obligation.specs.Ready.{HasRoom, IsReady}

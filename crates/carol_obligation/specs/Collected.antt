@@ -8,8 +8,8 @@ use Rattle.carol_program.specs.declared.places.Place.TheVariants as place
 use Rattle.carol_program.specs.declared.steps.Part.{Part}
 use Rattle.carol_program.specs.Bodies.{Body, Query, Issue, Release, Branch, Return}
 use Rattle.carol_program.specs.Rules.{Rules, OpRules}
-use Rattle.carol_obligation_sites.specs.Sites.{Amount, After, Gives}
-use Rattle.carol_obligation_sites.specs.Formed.{with_query, with_closing, with_test, owed}
+use Rattle.carol_obligation.specs.Sites.{Amount, After, Gives}
+use Rattle.carol_obligation.specs.Formed.{with_query, with_closing, with_test, owed}
 
 -- where a body begins: the operation and its number, what is known before the round, the round, and
 -- whether it has a query

@@ -1,3 +1,11 @@
+pub mod Ways
+pub mod Sites
+pub mod Decoded
+pub mod Breaches
+pub mod Formed
+pub mod Places
+pub mod GoodLaw
+pub mod TruthLaw
 pub mod Collected
 pub mod Budget
 pub mod Ready

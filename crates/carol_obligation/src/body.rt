@@ -7,7 +7,7 @@ ghost use Rattle.carol_program.specs.Rules.{rules_in, op_rules};
 ghost use Rattle.carol_program.specs.WellFormed.{AreRules, IsOpOver};
 ghost use Rattle.carol_formula.specs.Weight.{weight};
 ghost use Rattle.carol_obligation.specs.Budget.{AreSmallParts, amount_limit};
-ghost use Rattle.carol_obligation_sites.specs.Places.{obligations_at};
+ghost use Rattle.carol_obligation.specs.Places.{obligations_at};
 ghost use Rattle.carol_obligation.specs.Collected.{
   collected,
   amount_owed,

@@ -3,7 +3,7 @@ ghost use Rattle.carol_formula.specs.Tree.{claim_of};
 ghost use Rattle.carol_program.specs.Limits.{most_queries, most_statements};
 ghost use Rattle.carol_program.specs.Rules.{rules_in};
 ghost use Rattle.carol_program.specs.WellFormed.{AreRules};
-ghost use Rattle.carol_obligation_sites.specs.Formed.{
+ghost use Rattle.carol_obligation.specs.Formed.{
   with_all,
   with_closing,
   with_query,
@@ -13,9 +13,8 @@ ghost use Rattle.carol_obligation_sites.specs.Formed.{
 
 use crate::names::{GuardNames, RoundNames, round_variable};
 use crate::rows::{and, not, with_flags};
-use carol_formula::{Boxed, Formula};
+use carol_formula::{Boxed, Formula, renamed};
 use carol_program::Program;
-use carol_renaming::renamed;
 use std::alloc::{AllocError, Global};
 
 /// The store of a round is one of the shape, and the invariant is true of it.

@@ -1,7 +1,7 @@
 ghost use Rattle.std.specs.Prelude.{◌≡◌, IfOk};
 ghost use Rattle.carol_program.specs.Rules.{rules_in};
 ghost use Rattle.carol_program.specs.WellFormed.{AreRules};
-ghost use Rattle.carol_obligation_sites.specs.Places.{obligations_of};
+ghost use Rattle.carol_obligation.specs.Places.{obligations_of};
 ghost use Rattle.carol_obligation.specs.Listed.{owed_in};
 
 use crate::collector::Collector;

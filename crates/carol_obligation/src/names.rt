@@ -1,14 +1,13 @@
 ghost use Rattle.std.specs.Prelude.{◌≡◌, ◌<◌, ◌≤◌, slice_get, IfOk};
 ghost use Rattle.carol_formula.specs.Weight.{weight};
 ghost use Rattle.carol_obligation.specs.Budget.{AreLightParts, amount_limit};
-ghost use Rattle.carol_obligation_sites.specs.Formed.{after_name, done_name};
+ghost use Rattle.carol_obligation.specs.Formed.{after_name, done_name};
 ghost use Rattle.carol_program.specs.Limits.{most_statements};
-ghost use Rattle.carol_obligation_sites.specs.Decoded.{round_variable};
+ghost use Rattle.carol_obligation.specs.Decoded.{round_variable};
 
-use carol_formula::{Term, Variable};
+use carol_formula::{Naming, Term, Variable, plus};
 use carol_program::Part;
 use carol_reading::amount_for;
-use carol_renaming::{Naming, plus};
 use carol_store::CellKind;
 use std::alloc::{AllocError, Global};
 
@@ -21,7 +20,7 @@ pub(crate) struct RoundNames {
 impl Naming for RoundNames {
     ghost use Rattle.std.specs.Prelude.{◌<◌, ◌≤◌};
     ghost use Rattle.carol_program.specs.Limits.{most_statements};
-    ghost use Rattle.carol_obligation_sites.specs.Formed.{round_name};
+    ghost use Rattle.carol_obligation.specs.Formed.{round_name};
 
     ghost name_of = { λ n v. round_name n.round v };
 
@@ -42,7 +41,7 @@ pub(crate) struct GuardNames {
 impl Naming for GuardNames {
     ghost use Rattle.std.specs.Prelude.{◌<◌, ◌≤◌};
     ghost use Rattle.carol_program.specs.Limits.{most_statements, most_queries};
-    ghost use Rattle.carol_obligation_sites.specs.Formed.{guard_name};
+    ghost use Rattle.carol_obligation.specs.Formed.{guard_name};
 
     ghost name_of = { λ n v. guard_name n.slot n.round v };
 
@@ -69,7 +68,7 @@ impl<'a> Naming for AfterNames<'a> {
     ghost use Rattle.std.specs.Prelude.{◌<◌, ◌≤◌};
     ghost use Rattle.std.specs.List.{AllByRecursion};
     ghost use Rattle.carol_program.specs.Limits.{most_statements};
-    ghost use Rattle.carol_obligation_sites.specs.Formed.{after_name};
+    ghost use Rattle.carol_obligation.specs.Formed.{after_name};
     ghost use Rattle.carol_obligation.specs.Budget.{AreLightParts};
 
     ghost name_of = { λ n v. after_name n.kinds.now n.parts.now n.round v };
@@ -138,7 +137,7 @@ pub(crate) struct ResultNames<'a> {
 
 impl<'a> Naming for ResultNames<'a> {
     ghost use Rattle.std.specs.Prelude.{⊤};
-    ghost use Rattle.carol_obligation_sites.specs.Formed.{result_name};
+    ghost use Rattle.carol_obligation.specs.Formed.{result_name};
 
     ghost name_of = { λ n v. result_name n.value.now v };
 

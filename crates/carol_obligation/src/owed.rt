@@ -4,16 +4,15 @@ ghost use Rattle.carol_formula.specs.Weight.{weight};
 ghost use Rattle.carol_program.specs.Limits.{most_statements};
 ghost use Rattle.carol_program.specs.Rules.{OpRules, rules_in, op_rules};
 ghost use Rattle.carol_program.specs.WellFormed.{AreRules, IsOpOver};
-ghost use Rattle.carol_obligation_sites.specs.Sites.{Amount, After, Gives};
-ghost use Rattle.carol_obligation_sites.specs.Formed.{owed, with_ties, with_tie};
+ghost use Rattle.carol_obligation.specs.Sites.{Amount, After, Gives};
+ghost use Rattle.carol_obligation.specs.Formed.{owed, with_ties, with_tie};
 ghost use Rattle.carol_obligation.specs.Budget.{AreLightParts, amount_limit};
 
 use crate::known::with_round;
 use crate::names::{AfterNames, ResultNames, kind_at, round_variable};
 use crate::rows::{and, copied, not, tie, too_large};
-use carol_formula::{Boxed, Formula, Term, Variable};
+use carol_formula::{Boxed, Formula, Term, Variable, renamed};
 use carol_program::{Op, Part, Program};
-use carol_renaming::renamed;
 use carol_store::CellKind;
 use std::alloc::{AllocError, Global};
 

@@ -5,10 +5,9 @@ ghost use Rattle.carol_formula.specs.Claim as claim;
 ghost use Rattle.carol_formula.specs.Linear.{constant_of, difference_of, variable_of};
 ghost use Rattle.carol_formula.specs.Tree.{claim_of};
 ghost use Rattle.carol_formula.specs.Weight.{weight};
-ghost use Rattle.carol_obligation_sites.specs.Formed.{at_most, with_flags, too_large, most_of};
+ghost use Rattle.carol_obligation.specs.Formed.{at_most, with_flags, too_large, most_of};
 
-use carol_formula::{Boxed, Formula, Term, TermError, Variable};
-use carol_renaming::plus;
+use carol_formula::{Boxed, Formula, Term, TermError, Variable, plus};
 use carol_store::{CellKind, MOST_AMOUNT, MOST_TARGET};
 use std::alloc::{AllocError, Global};
 

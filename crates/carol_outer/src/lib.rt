@@ -1,4 +1,6 @@
 //! The edge of the program: where bytes come from and where they go, with faults that are counted.
+//!
+//! Layer: program. Called by `carol_worker` and the program.
 #![tactic(auto)]
 
 mod ends;

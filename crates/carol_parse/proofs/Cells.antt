@@ -5,7 +5,7 @@ use Rattle.carol_grammar.proofs.Says.{says_either, says_begins}
 use Rattle.carol_grammar.proofs.Given.{hold_any, hold_gives, hold_both, hold_many, hold_behind, hold_before}
 use Rattle.carol_syntax.specs.declared.cells.FieldKind.{FieldKind}
 use Rattle.carol_syntax.specs.Shape.{IsWhole, StartsAs, IsField, IsCell, AreSome}
-use Rattle.carol_syntax_rules.specs.Rules.{whole_kind, flag_field, field, more_fields, set_cell, record_cell, cell}
+use Rattle.carol_grammar.specs.Rules.{whole_kind, flag_field, field, more_fields, set_cell, record_cell, cell}
 use Rattle.carol_parse.proofs.Holds.{Holds, hold_listed}
 use Rattle.carol_parse.proofs.Terminals.{hold_name, hold_int, hold_bit}
 

@@ -8,12 +8,12 @@ use Rattle.carol_grammar.proofs.Given.{hold_any, hold_gives, hold_both, hold_per
 use Rattle.carol_syntax.specs.declared.scenes.SceneDecl.{SceneDecl}
 use Rattle.carol_syntax.specs.Files.{ProgramTree, FileTree}
 use Rattle.carol_syntax.specs.Shape.{IsLine, IsProgram, IsScene, IsFile}
-use Rattle.carol_syntax_tokens.specs.declared.lexeme.Lexeme.{Lexeme}
-use Rattle.carol_syntax_rules.specs.Rules.{Knot, literal, ending, Sequel, Scripted, Recorded, carol, lowest_of, sequel, some_sequel, staged, some_stage, with_sequel, file_of, file, IsFileOf}
+use Rattle.carol_syntax.specs.declared.lexeme.Lexeme.{Lexeme}
+use Rattle.carol_grammar.specs.Rules.{Knot, literal, ending, Sequel, Scripted, Recorded, carol, lowest_of, sequel, some_sequel, staged, some_stage, with_sequel, file_of, file, IsFileOf}
 use Rattle.carol_parse.proofs.Holds.{AreSpelled, stand_spelled, Fits, AllFit, Holds}
 use Rattle.carol_parse.proofs.Formulas.{hold_atom_literal, hold_nested}
-use Rattle.carol_parse.proofs.Bodies.{hold_answer, hold_choice}
-use Rattle.carol_parse.proofs.Programs.{hold_program}
+use Rattle.carol_parse.proofs.ShapedBodies.{hold_answer, hold_choice}
+use Rattle.carol_parse.proofs.ShapedPrograms.{hold_program}
 use Rattle.carol_parse.proofs.Scenes.{hold_scene, hold_script}
 
 abbrev IsSequel : Sequel → Type 0

@@ -6,7 +6,7 @@ use Rattle.carol_grammar.proofs.Says.{says_either, says_begins, says_deeper}
 use Rattle.carol_grammar.proofs.Given.{hold_any, hold_gives, hold_both, hold_many, hold_behind, hold_before}
 use Rattle.carol_syntax.specs.Formulas.{FormulaTree, And, Or}
 use Rattle.carol_syntax.specs.Shape.{IsFormula}
-use Rattle.carol_syntax_rules.specs.Rules.{literal, comparison, atom_literal, more_literals, conjunction, more_conjunctions, formula, denial, nested_literal}
+use Rattle.carol_grammar.specs.Rules.{literal, comparison, atom_literal, more_literals, conjunction, more_conjunctions, formula, denial, nested_literal}
 use Rattle.carol_parse.proofs.Holds.{Holds}
 use Rattle.carol_parse.proofs.Terms.{hold_term}
 

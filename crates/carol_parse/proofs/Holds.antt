@@ -6,10 +6,10 @@ use Rattle.carol_grammar.proofs.Says.{Says}
 use Rattle.carol_grammar.proofs.Given.{Stand, Anywhere, Given, hold_gives, hold_both, hold_many, hold_behind}
 use Rattle.carol_syntax.specs.declared.bodies.Statement.{Statement}
 use Rattle.carol_syntax.specs.Shape.{IsName, IsFormula, IsStatement, IsBody, AreSome}
-use Rattle.carol_syntax_tokens.specs.declared.kind.Kind.TheVariants as k
-use Rattle.carol_syntax_tokens.specs.declared.lexeme.Lexeme.{Lexeme}
-use Rattle.carol_syntax_rules.specs.Terminals.{class_of}
-use Rattle.carol_syntax_rules.specs.Rules.{Knot, KnotValue, literal, ending, RuleOf, spelling, listed}
+use Rattle.carol_syntax.specs.declared.kind.Kind.TheVariants as k
+use Rattle.carol_syntax.specs.declared.lexeme.Lexeme.{Lexeme}
+use Rattle.carol_grammar.specs.Terminals.{class_of}
+use Rattle.carol_grammar.specs.Rules.{Knot, KnotValue, literal, ending, RuleOf, spelling, listed}
 
 -- if the token is a name, what it spells is one
 abbrev pub IsSpelled : List ℕ → Lexeme → Type 0

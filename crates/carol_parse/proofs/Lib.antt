@@ -1,3 +1,5 @@
+pub mod Seen
+pub mod Endings
 pub mod Meant
 pub mod Holds
 pub mod Names
@@ -6,7 +8,7 @@ pub mod Terminals
 pub mod Cells
 pub mod Terms
 pub mod Formulas
-pub mod Bodies
-pub mod Programs
+pub mod ShapedBodies
+pub mod ShapedPrograms
 pub mod Scenes
 pub mod Files

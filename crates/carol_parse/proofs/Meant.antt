@@ -7,17 +7,17 @@ use Rattle.carol_syntax.specs.declared.files.File.{File}
 use Rattle.carol_syntax.specs.Files.{FileTree, file_tree}
 use Rattle.carol_syntax.specs.Shape.{IsFile}
 use Rattle.carol_syntax.specs.Size.{IsSized}
-use Rattle.carol_syntax_tokens.specs.declared.lexeme.Lexeme.{Lexeme}
-use Rattle.carol_syntax_tokens.specs.declared.lexeme.Lexemes.{Lexemes}
-use Rattle.carol_syntax_tokens.specs.declared.lexeme.Stop.{Stop}
-use Rattle.carol_syntax_tokens.specs.declared.place.Place.{Place}
-use Rattle.carol_syntax_tokens.specs.Place.{start}
-use Rattle.carol_syntax_tokens.specs.Cut.{Cut, StandBetween}
-use Rattle.carol_syntax_rules.specs.Rules.{carol, file, read_file}
-use Rattle.carol_syntax_meaning.specs.declared.reading.Reach.{Reach}
-use Rattle.carol_syntax_meaning.specs.Outcome.{Outcome, AreParts, IsText, Means, tail_of}
-use Rattle.carol_syntax_meaning.specs.Reach.{Reaches, told}
-use Rattle.carol_parse_size.specs.Law.{ReadIsSized}
+use Rattle.carol_syntax.specs.declared.lexeme.Lexeme.{Lexeme}
+use Rattle.carol_syntax.specs.declared.lexeme.Lexemes.{Lexemes}
+use Rattle.carol_syntax.specs.declared.lexeme.Stop.{Stop}
+use Rattle.carol_syntax.specs.declared.place.Place.{Place}
+use Rattle.carol_syntax.specs.Place.{start}
+use Rattle.carol_syntax.specs.Cut.{Cut, StandBetween}
+use Rattle.carol_grammar.specs.Rules.{carol, file, read_file}
+use Rattle.carol_grammar.specs.declared.reading.Reach.{Reach}
+use Rattle.carol_grammar.specs.Outcome.{Outcome, AreParts, IsText, Means, tail_of}
+use Rattle.carol_grammar.specs.Reach.{Reaches, told}
+use Rattle.carol_grammar.specs.Law.{ReadIsSized}
 use Rattle.carol_parse.specs.declared.error.TextError.{TextError}
 use Rattle.carol_parse.specs.Answer.{said, Says, IsMeant, IsOnlyMeant}
 

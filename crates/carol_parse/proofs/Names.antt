@@ -14,11 +14,11 @@ use Rattle.carol_syntax.specs.declared.places.Span.{Span}
 use Rattle.carol_syntax.specs.Limits.{largest, longest_name}
 use Rattle.carol_syntax.specs.Shape.{IsName}
 use Rattle.carol_syntax.specs.Words.{is_small_letter, is_word_byte, is_word, is_keyword}
-use Rattle.carol_syntax_tokens.specs.declared.kind.Kind.{Kind}
-use Rattle.carol_syntax_tokens.specs.declared.kind.Kind.TheVariants as k
-use Rattle.carol_syntax_tokens.specs.declared.found.Found.{Found}
-use Rattle.carol_syntax_tokens.specs.Keywords.{kind_in, keyword_kinds, kind_of_word}
-use Rattle.carol_syntax_tokens.specs.First.{first_token, judged_word, judged_number, first_symbol}
+use Rattle.carol_syntax.specs.declared.kind.Kind.{Kind}
+use Rattle.carol_syntax.specs.declared.kind.Kind.TheVariants as k
+use Rattle.carol_syntax.specs.declared.found.Found.{Found}
+use Rattle.carol_syntax.specs.Keywords.{kind_in, keyword_kinds, kind_of_word}
+use Rattle.carol_syntax.specs.First.{first_token, judged_word, judged_number, first_symbol}
 
 -- another kind than that of names
 abbrev is_other : Kind → Bool

@@ -7,11 +7,11 @@ use Rattle.carol_grammar.proofs.Given.{hold_any, hold_gives, hold_both, hold_per
 use Rattle.carol_syntax.specs.declared.places.Ident.{Ident}
 use Rattle.carol_syntax.specs.declared.places.Num.{Num}
 use Rattle.carol_syntax.specs.Shape.{IsLiteral, IsWhole, IsNumber, IsCommand, IsSession, IsScene, IsLine}
-use Rattle.carol_syntax_tokens.specs.declared.kind.Kind.{Kind}
-use Rattle.carol_syntax_rules.specs.Rules.{some_ints, arguments, times_of, times, command, commands, session, sessions, setting, scene, pair, script_line, lines, script}
+use Rattle.carol_syntax.specs.declared.kind.Kind.{Kind}
+use Rattle.carol_grammar.specs.Rules.{some_ints, arguments, times_of, times, command, commands, session, sessions, setting, scene, pair, script_line, lines, script}
 use Rattle.carol_parse.proofs.Holds.{Holds, hold_listed}
 use Rattle.carol_parse.proofs.Terminals.{hold_name, hold_number, hold_num, hold_int}
-use Rattle.carol_parse.proofs.Programs.{all_listed}
+use Rattle.carol_parse.proofs.ShapedPrograms.{all_listed}
 
 times_small : (name : Ident) (o : Option Num) → IfSome o IsNumber → IsNumber (times_of name o)
 times_small name None h = omega arith

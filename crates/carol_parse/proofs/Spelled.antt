@@ -4,14 +4,14 @@ use Rattle.std.specs.Prelude.{Some, None, take}
 use Rattle.std.specs.Bool.{MatchBool}
 use Rattle.std.proofs.lemmas.List.{drop-drop}
 use Rattle.carol_syntax.specs.Shape.{IsName}
-use Rattle.carol_syntax_tokens.specs.declared.kind.Kind.TheVariants as k
-use Rattle.carol_syntax_tokens.specs.declared.found.Found.{Found}
-use Rattle.carol_syntax_tokens.specs.declared.lexeme.Lexeme.{Lexeme}
-use Rattle.carol_syntax_tokens.specs.declared.lexeme.Stop.{Stop}
-use Rattle.carol_syntax_tokens.specs.declared.place.Place.{Place}
-use Rattle.carol_syntax_tokens.specs.Place.{start, passes, past_space, place_behind, place_over}
-use Rattle.carol_syntax_tokens.specs.Cut.{CutFrom, Cut, IsNext, is_transcript}
-use Rattle.carol_syntax_rules.specs.Rules.{spelling}
+use Rattle.carol_syntax.specs.declared.kind.Kind.TheVariants as k
+use Rattle.carol_syntax.specs.declared.found.Found.{Found}
+use Rattle.carol_syntax.specs.declared.lexeme.Lexeme.{Lexeme}
+use Rattle.carol_syntax.specs.declared.lexeme.Stop.{Stop}
+use Rattle.carol_syntax.specs.declared.place.Place.{Place}
+use Rattle.carol_syntax.specs.Place.{start, passes, past_space, place_behind, place_over}
+use Rattle.carol_syntax.specs.Cut.{CutFrom, Cut, IsNext, is_transcript}
+use Rattle.carol_grammar.specs.Rules.{spelling}
 use Rattle.carol_parse.proofs.Holds.{IsSpelled, AreSpelled}
 use Rattle.carol_parse.proofs.Names.{found_name}
 

@@ -7,12 +7,12 @@ use Rattle.carol_grammar.proofs.Says.{says_either}
 use Rattle.carol_grammar.proofs.Given.{hold_token, hold_gives, hold_behind}
 use Rattle.carol_syntax.specs.Limits.{largest}
 use Rattle.carol_syntax.specs.Shape.{IsLiteral, IsWhole, IsName, IsNumber}
-use Rattle.carol_syntax_tokens.specs.declared.kind.Kind.{Kind}
-use Rattle.carol_syntax_tokens.specs.declared.kind.Kind.TheVariants as k
-use Rattle.carol_syntax_tokens.specs.declared.lexeme.Lexeme.{Lexeme}
-use Rattle.carol_syntax_rules.specs.Terminals.{number_of, class_of, numeral, class_of_zero, class_of_more, class_of_none}
-use Rattle.carol_syntax_rules.proofs.TokenKinds.{word_kind}
-use Rattle.carol_syntax_rules.specs.Rules.{numbers, positives, digits, name, number, positive, num, int, bit}
+use Rattle.carol_syntax.specs.declared.kind.Kind.{Kind}
+use Rattle.carol_syntax.specs.declared.kind.Kind.TheVariants as k
+use Rattle.carol_syntax.specs.declared.lexeme.Lexeme.{Lexeme}
+use Rattle.carol_grammar.specs.Terminals.{number_of, class_of, numeral, class_of_zero, class_of_more, class_of_none}
+use Rattle.carol_grammar.proofs.TokenKinds.{word_kind}
+use Rattle.carol_grammar.specs.Rules.{numbers, positives, digits, name, number, positive, num, int, bit}
 use Rattle.carol_parse.proofs.Holds.{Holds}
 
 -- no word is a number

@@ -10,9 +10,9 @@ use Rattle.carol_syntax.specs.declared.formulas.ValueKind.{ValueKind}
 use Rattle.carol_syntax.specs.declared.formulas.ValueKind.TheVariants as way
 use Rattle.carol_syntax.specs.declared.bodies.PathDecl.{PathDecl}
 use Rattle.carol_syntax.specs.Shape.{IsName, HasParts, IsValue, IsProduct, IsTerm, IsPath}
-use Rattle.carol_syntax_tokens.specs.declared.kind.Kind.{Kind}
-use Rattle.carol_syntax_tokens.specs.declared.kind.Kind.TheVariants as k
-use Rattle.carol_syntax_rules.specs.Rules.{member, path, outcome_value, names_of, dotted, plain_value, side, sized_side, sized, size_value, value, times_value, multiple, product, next_product, first_product, more_products, term}
+use Rattle.carol_syntax.specs.declared.kind.Kind.{Kind}
+use Rattle.carol_syntax.specs.declared.kind.Kind.TheVariants as k
+use Rattle.carol_grammar.specs.Rules.{member, path, outcome_value, names_of, dotted, plain_value, side, sized_side, sized, size_value, value, times_value, multiple, product, next_product, first_product, more_products, term}
 use Rattle.carol_parse.proofs.Holds.{Holds}
 use Rattle.carol_parse.proofs.Terminals.{hold_name, hold_number}
 

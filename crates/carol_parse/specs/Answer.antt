@@ -2,8 +2,8 @@
 use Rattle.std.specs.Prelude.{◌≡◌, List, ℕ, Option, Some, None, Result, Ok, Err, IfSome}
 use Rattle.carol_syntax.specs.declared.files.File.{File}
 use Rattle.carol_syntax.specs.Files.{file_tree}
-use Rattle.carol_syntax_meaning.specs.Outcome.{Outcome, Means}
-use Rattle.carol_syntax_meaning.specs.Outcome.{Read, Bad, Large}
+use Rattle.carol_grammar.specs.Outcome.{Outcome, Means}
+use Rattle.carol_grammar.specs.Outcome.{Read, Bad, Large}
 use Rattle.carol_parse.specs.declared.error.TextError.{TextError}
 use Rattle.carol_parse.specs.declared.error.TextError.TheVariants as error
 

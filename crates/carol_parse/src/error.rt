@@ -1,6 +1,6 @@
 ghost use Rattle.std.specs.Prelude.{◌≡◌};
 
-use carol_syntax_meaning::TextLimit;
+use carol_grammar::TextLimit;
 use std::alloc::AllocError;
 use thiserror::Error;
 

@@ -1,14 +1,12 @@
 ghost use Rattle.std.specs.Prelude.{◌≡◌};
 ghost use Rattle.carol_syntax.specs.Files.{file_tree, program_tree};
-ghost use Rattle.carol_syntax_rules.specs.Rules as rules;
-ghost use Rattle.carol_parse_reader.specs.Reads.{Reads, read_by};
-ghost use Rattle.carol_parse_scenes.specs.Stages.{some_sequel_of, some_stage_of};
+ghost use Rattle.carol_grammar.specs.Rules as rules;
+ghost use Rattle.carol_reader.specs.Reads.{Reads, read_by};
+ghost use Rattle.carol_parse.specs.Stages.{some_sequel_of, some_stage_of};
 
-use carol_parse_programs::program;
-use carol_parse_reader::{Read, Reader};
-use carol_parse_scenes::{Sequel, Stage, some_stage};
-use carol_syntax::{File, ProgramDecl, SceneDecl};
-use carol_syntax_tokens::Lexeme;
+use crate::{Sequel, Stage, program, some_stage};
+use carol_reader::{Read, Reader};
+use carol_syntax::{File, Lexeme, ProgramDecl, SceneDecl};
 
 // A file with a scene, and what stands behind it.
 fn staged(program: ProgramDecl, scene: SceneDecl, sequel: Option<Sequel>, tail: u32) -> File
@@ -52,7 +50,7 @@ fn make_file(program: ProgramDecl, stage: Option<Stage>, tail: u32) -> File
 }
 
 /// A file, whose transcript begins behind the offset `tail` if it has one.
-#[tactic(auto, unfolding(carol_syntax_rules::specs::Rules::file))]
+#[tactic(auto, unfolding(carol_grammar::specs::Rules::file))]
 pub(crate) fn file<'a>(reader: &Reader<'_>, tokens: &'a [Lexeme], tail: u32) -> Read<'a, File>
     ensures { Reads file_tree result
         (read_by reader.now (rules.file reader.now.bytes.now tail) tokens.now) }

@@ -7,7 +7,7 @@
 ghost use Rattle.std.specs.Prelude.{ℕ, List};
 ghost use Rattle.carol_syntax.specs.Files.{FileTree};
 ghost use Rattle.carol_syntax.specs.Shape.{IsFile};
-ghost use Rattle.carol_syntax_meaning.specs.Outcome.{IsText};
+ghost use Rattle.carol_grammar.specs.Outcome.{IsText};
 
 /// The tree of a text is a tree of the grammar: its names are names, its numbers are not too great,
 /// and its lists are as long as their rule wants.

@@ -4,21 +4,20 @@ ghost use Rattle.carol_syntax.specs.Files.{FileTree, file_tree};
 ghost use Rattle.carol_syntax.specs.Limits.{most_text_bytes};
 ghost use Rattle.carol_syntax.specs.Shape.{IsFile};
 ghost use Rattle.carol_syntax.specs.Size.{IsSized};
-ghost use Rattle.carol_syntax_tokens.specs.declared.lexeme.Lexeme.{Lexeme};
-ghost use Rattle.carol_syntax_meaning.specs.Outcome.{tail_of, is_broken};
-ghost use Rattle.carol_syntax_meaning.specs.Reach.{told, bad_at, unless_large};
-ghost use Rattle.carol_parse_reader.specs.Reads.{Reads};
+ghost use Rattle.carol_syntax.specs.declared.lexeme.Lexeme.{Lexeme};
+ghost use Rattle.carol_grammar.specs.Outcome.{tail_of, is_broken};
+ghost use Rattle.carol_grammar.specs.Reach.{told, bad_at, unless_large};
+ghost use Rattle.carol_reader.specs.Reads.{Reads};
 ghost use Rattle.carol_parse.specs.Answer.{Says, IsMeant, IsOnlyMeant};
 
 use crate::error::TextError;
 use crate::file::file;
 use crate::shape::text_is_shaped;
-use carol_parse_reader::{Halt, Read, Reader};
-use carol_parse_size::read_is_sized;
-use carol_syntax::{File, Span};
-use carol_syntax_meaning::{TextLimit, find_reach, one_outcome, told_means};
-use carol_syntax_rules::reading_answers;
-use carol_syntax_tokens::{Lexeme, Lexemes, Stop, cut};
+use carol_grammar::{
+    TextLimit, find_reach, one_outcome, read_is_sized, reading_answers, told_means,
+};
+use carol_reader::{Halt, Read, Reader};
+use carol_syntax::{File, Lexeme, Lexemes, Span, Stop, cut};
 use std::alloc::Global;
 
 fn bad(at: Span) -> TextError

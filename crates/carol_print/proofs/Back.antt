@@ -3,12 +3,12 @@ use Rattle.std.proofs.Common.{◌≡◌, ℕ, List, refl, subst}
 use Rattle.carol_syntax.specs.Files.{FileTree}
 use Rattle.carol_syntax.specs.Unplaced.{SameButPlaces}
 use Rattle.carol_syntax.specs.Shape.{IsFile}
-use Rattle.carol_syntax_tokens.specs.declared.lexeme.Stop.TheVariants as stop_of
-use Rattle.carol_syntax_tokens.specs.declared.place.Place.{Place}
-use Rattle.carol_print_canon.specs.Pieces.{Piece, text_of, AreLaidOut, CutAgain}
-use Rattle.carol_print_canon.specs.Canonical.{canonical}
-use Rattle.carol_syntax_meaning.specs.Outcome.{Outcome, Read, Bad, Large, IsText, IsBadAt, Means}
-use Rattle.carol_print_readback.specs.Spelled.{without_tail, CanonicalIsRead}
+use Rattle.carol_syntax.specs.declared.lexeme.Stop.TheVariants as stop_of
+use Rattle.carol_syntax.specs.declared.place.Place.{Place}
+use Rattle.carol_print.specs.Pieces.{Piece, text_of, AreLaidOut, CutAgain}
+use Rattle.carol_print.specs.Canonical.{canonical}
+use Rattle.carol_grammar.specs.Outcome.{Outcome, Read, Bad, Large, IsText, IsBadAt, Means}
+use Rattle.carol_print.specs.Spelled.{without_tail, CanonicalIsRead}
 use Rattle.carol_print.specs.ReadBack.{IsTextOf, IsBack, IsReadBack}
 
 module _ (laid : (f : FileTree) → IsFile f → AreLaidOut (canonical f)) (again : (ps : List Piece) → AreLaidOut ps → CutAgain ps) (read : CanonicalIsRead) where

@@ -5,10 +5,10 @@ use Rattle.carol_syntax.specs.declared.formulas.TermDecl.{TermDecl}
 use Rattle.carol_syntax.specs.declared.formulas.Sign.{Sign}
 use Rattle.carol_syntax.specs.declared.formulas.Sign.TheVariants as way
 use Rattle.carol_syntax.specs.Formulas.{FormulaTree, Not, And, Or, Compare}
-use Rattle.carol_print_canon.specs.Pieces.{Space, text_of}
-use Rattle.carol_print_canon.specs.Canonical.{is_either, is_both, formula, sign, term}
+use Rattle.carol_print.specs.Pieces.{Space, text_of}
+use Rattle.carol_print.specs.Canonical.{is_either, is_both, formula, sign, term}
 use Rattle.carol_print.specs.Enclosing.{opened, closed}
-use Rattle.carol_print_canon.proofs.Lists.{text_of_both}
+use Rattle.carol_print.proofs.LaidLists.{text_of_both}
 use Rattle.carol_print.proofs.Texts.{enclosed_text}
 
 denial_text : (f : FormulaTree) (out : List ℕ) → (out ++ codes "not " ++ opened (is_either f || is_both f) ++ text_of (formula f)) ++ closed (is_either f || is_both f) ≡ out ++ text_of (formula (Not f))

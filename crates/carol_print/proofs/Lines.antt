@@ -11,9 +11,9 @@ use Rattle.carol_syntax.specs.declared.bodies.Statement.{Statement}
 use Rattle.carol_syntax.specs.declared.bodies.Statement.TheVariants.{Let, Issue}
 use Rattle.carol_syntax.specs.Formulas.{FormulaTree}
 use Rattle.carol_syntax.specs.Bodies.{BodyTree, Return, If}
-use Rattle.carol_print_canon.specs.Pieces.{text_of}
-use Rattle.carol_print_canon.specs.Canonical.{cell, only_name, with_commas, concat, path, term, formula, field, fields, change, atom, statement, inside}
-use Rattle.carol_print_canon.proofs.Lists.{text_of_both}
+use Rattle.carol_print.specs.Pieces.{text_of}
+use Rattle.carol_print.specs.Canonical.{cell, only_name, with_commas, concat, path, term, formula, field, fields, change, atom, statement, inside}
+use Rattle.carol_print.proofs.LaidLists.{text_of_both}
 use Rattle.carol_print.proofs.Texts.{item_at}
 
 -- one field more

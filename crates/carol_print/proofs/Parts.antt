@@ -8,9 +8,9 @@ use Rattle.carol_syntax.specs.declared.scenes.SessionDecl.{SessionDecl}
 use Rattle.carol_syntax.specs.declared.scenes.SceneDecl.{SceneDecl}
 use Rattle.carol_syntax.specs.declared.scenes.ScriptLine.{ScriptLine}
 use Rattle.carol_syntax.specs.Files.{NamedFormula, OpTree, ProgramTree, FileTree}
-use Rattle.carol_print_canon.specs.Pieces.{text_of}
-use Rattle.carol_print_canon.specs.Canonical.{only_name, with_commas, concat, formula, cell, inside, int, guard, param, op, program, times, command, session, scene, line, script, part_of, canonical}
-use Rattle.carol_print_canon.proofs.Lists.{text_of_both}
+use Rattle.carol_print.specs.Pieces.{text_of}
+use Rattle.carol_print.specs.Canonical.{only_name, with_commas, concat, formula, cell, inside, int, guard, param, op, program, times, command, session, scene, line, script, part_of, canonical}
+use Rattle.carol_print.proofs.LaidLists.{text_of_both}
 
 pub guard_text : (g : NamedFormula) (out : List ℕ) → (out ++ codes "guard " ++ text_of (only_name g.name) ++ codes ": " ++ text_of (formula g.formula)) ++ codes ";\n" ≡ out ++ text_of (guard g)
 guard_text g out = simp (append_assoc, append-nil, text_of_both)

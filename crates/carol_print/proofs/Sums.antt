@@ -1,9 +1,9 @@
 -- The text of a sum, product by product.
 use Rattle.std.proofs.Common.{◌≡◌, ◌<◌, ℕ, ◌+◌, length, drop, get_or, List, ◌∷◌, ◌++◌, refl, append_assoc}
 use Rattle.carol_syntax.specs.declared.formulas.ProductDecl.{ProductDecl}
-use Rattle.carol_print_canon.specs.Pieces.{Space, text_of}
-use Rattle.carol_print_canon.specs.Canonical.{first_sign, added_sign, product, more_products, sum_of}
-use Rattle.carol_print_canon.proofs.Lists.{text_of_both}
+use Rattle.carol_print.specs.Pieces.{Space, text_of}
+use Rattle.carol_print.specs.Canonical.{first_sign, added_sign, product, more_products, sum_of}
+use Rattle.carol_print.proofs.LaidLists.{text_of_both}
 use Rattle.carol_print.proofs.Texts.{item_at}
 
 -- the first product, before the others

@@ -1,8 +1,8 @@
 -- The text of pieces, one list after the other.
 use Rattle.std.proofs.Common.{Bool, true, false, ◌≡◌, ◌<◌, ℕ, suc, ◌+◌, length, drop, map, get_or, drop-cons, add-one, sym, ap, List, [], ◌∷◌, ◌++◌, refl, append_assoc}
-use Rattle.carol_print_canon.specs.Pieces.{Piece, text_of}
-use Rattle.carol_print_canon.specs.Canonical.{concat, after_commas, with_commas, enclosed, closing}
-use Rattle.carol_print_canon.proofs.Lists.{text_of_both}
+use Rattle.carol_print.specs.Pieces.{Piece, text_of}
+use Rattle.carol_print.specs.Canonical.{concat, after_commas, with_commas, enclosed, closing}
+use Rattle.carol_print.proofs.LaidLists.{text_of_both}
 use Rattle.carol_print.specs.Enclosing.{opened, closed}
 use Rattle.std.proofs.lemmas.List.{append-nil}
 

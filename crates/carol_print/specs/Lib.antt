@@ -1,2 +1,5 @@
+pub mod Pieces
+pub mod Canonical
+pub mod Spelled
 pub mod Enclosing
 pub mod ReadBack

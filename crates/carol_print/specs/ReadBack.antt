@@ -2,8 +2,8 @@
 use Rattle.std.specs.Prelude.{List, ℕ}
 use Rattle.carol_syntax.specs.Files.{FileTree}
 use Rattle.carol_syntax.specs.Unplaced.{SameButPlaces}
-use Rattle.carol_syntax_meaning.specs.Outcome.{Outcome, Read, Bad, Large, IsText, Means}
-use Rattle.carol_print_readback.specs.Spelled.{without_tail}
+use Rattle.carol_grammar.specs.Outcome.{Outcome, Read, Bad, Large, IsText, Means}
+use Rattle.carol_print.specs.Spelled.{without_tail}
 
 -- the bytes are a file with this tree, but for places and a transcript
 abbrev pub IsTextOf : List ℕ → FileTree → Type 0

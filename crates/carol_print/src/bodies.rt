@@ -1,7 +1,7 @@
 ghost use Rattle.std.specs.Prelude.{◌≡◌, ◌++◌, OnOk};
 ghost use Rattle.carol_syntax.specs.Bodies.{body_tree};
-ghost use Rattle.carol_print_canon.specs.Pieces.{Piece, text_of};
-ghost use Rattle.carol_print_canon.specs.Canonical as canon;
+ghost use Rattle.carol_print.specs.Pieces.{Piece, text_of};
+ghost use Rattle.carol_print.specs.Canonical as canon;
 
 use crate::formulas::push_formula;
 use crate::printed::{Printed, push_all, push_text, push_with_commas};

@@ -1,6 +1,6 @@
 ghost use Rattle.std.specs.Prelude.{◌≡◌, ◌++◌, OnOk, [], ◌∷◌};
-ghost use Rattle.carol_print_canon.specs.Pieces.{Piece, Space, text_of};
-ghost use Rattle.carol_print_canon.specs.Canonical as canon;
+ghost use Rattle.carol_print.specs.Pieces.{Piece, Space, text_of};
+ghost use Rattle.carol_print.specs.Canonical as canon;
 
 use crate::printed::{Printed, push_text, push_with_commas};
 use carol_syntax::{CellDecl, FieldDecl, FieldKind};

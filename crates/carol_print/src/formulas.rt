@@ -1,7 +1,7 @@
 ghost use Rattle.std.specs.Prelude.{◌≡◌, ◌++◌, OnOk, [], ◌∷◌, ◌||◌};
 ghost use Rattle.carol_syntax.specs.Formulas.{formula_tree};
-ghost use Rattle.carol_print_canon.specs.Pieces.{Space, text_of};
-ghost use Rattle.carol_print_canon.specs.Canonical as canon;
+ghost use Rattle.carol_print.specs.Pieces.{Space, text_of};
+ghost use Rattle.carol_print.specs.Canonical as canon;
 ghost use Rattle.carol_print.specs.Enclosing.{opened, closed};
 
 use crate::printed::push_text;

@@ -1,6 +1,6 @@
 ghost use Rattle.std.specs.Prelude.{◌≡◌, ◌++◌, OnOk, List, ℕ, map};
-ghost use Rattle.carol_print_canon.specs.Pieces.{Piece, text_of};
-ghost use Rattle.carol_print_canon.specs.Canonical.{with_commas, concat, only_name, int};
+ghost use Rattle.carol_print.specs.Pieces.{Piece, text_of};
+ghost use Rattle.carol_print.specs.Canonical.{with_commas, concat, only_name, int};
 
 use carol_syntax::Ident;
 use carol_text::push_integer;

@@ -1,6 +1,6 @@
 ghost use Rattle.std.specs.Prelude.{◌≡◌, ◌++◌, OnOk, codes, decimal};
-ghost use Rattle.carol_print_canon.specs.Pieces.{Piece, text_of};
-ghost use Rattle.carol_print_canon.specs.Canonical as canon;
+ghost use Rattle.carol_print.specs.Pieces.{Piece, text_of};
+ghost use Rattle.carol_print.specs.Canonical as canon;
 
 use crate::printed::{Printed, push_all, push_text, push_with_commas};
 use carol_syntax::{CommandDecl, SceneDecl, ScriptLine, SessionDecl};

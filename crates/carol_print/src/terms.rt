@@ -1,6 +1,6 @@
 ghost use Rattle.std.specs.Prelude.{◌≡◌, ◌++◌, OnOk, [], ◌∷◌, codes};
-ghost use Rattle.carol_print_canon.specs.Pieces.{text_of, Space};
-ghost use Rattle.carol_print_canon.specs.Canonical as canon;
+ghost use Rattle.carol_print.specs.Pieces.{text_of, Space};
+ghost use Rattle.carol_print.specs.Canonical as canon;
 
 use crate::printed::{Printed, push_text};
 use carol_syntax::{Ident, ProductDecl, TermDecl, ValueDecl, ValueKind};
@@ -42,7 +42,7 @@ fn push_sized(out: &mut Vec<u8>, word: &str, parts: &[Ident]) -> Result<(), Allo
 }
 
 // Appends a value.
-#[tactic(auto, using(carol_print_canon::proofs::Lists::text_of_both))]
+#[tactic(auto, using(crate::proofs::LaidLists::text_of_both))]
 fn push_value(out: &mut Vec<u8>, value: &ValueDecl) -> Result<(), AllocError>
     ensures { OnOk result (out.new.items ≡ out.old.items ++ text_of (canon.value value.now)) }
 {

@@ -1,16 +1,15 @@
 ghost use Rattle.std.specs.Prelude.{◌≡◌, ◌++◌, OnOk, IfOk};
 ghost use Rattle.carol_syntax.specs.Files.{file_tree};
 ghost use Rattle.carol_syntax.specs.Shape.{IsFile};
-ghost use Rattle.carol_print_canon.specs.Pieces.{text_of};
+ghost use Rattle.carol_print.specs.Pieces.{text_of};
 ghost use Rattle.carol_print.specs.ReadBack.{IsTextOf, IsReadBack};
-ghost use Rattle.carol_print_canon.specs.Canonical.{canonical, part_of, scene, script};
+ghost use Rattle.carol_print.specs.Canonical.{canonical, part_of, scene, script};
 
 use crate::programs::push_program;
 use crate::scenes::{push_scene, push_script};
-use carol_print_canon::{canonical_is_laid_out, laid_out};
-use carol_print_readback::canonical_is_read;
+use crate::{canonical_is_laid_out, canonical_is_read, laid_out};
+use carol_grammar::{one_bad, one_text};
 use carol_syntax::{File, SceneDecl, ScriptLineList};
-use carol_syntax_meaning::{one_bad, one_text};
 use std::alloc::{AllocError, Global};
 
 // Appends the scene part, where there is one.

@@ -17,13 +17,14 @@ way_there [] cell value up e = absurd (nothing e)
   where
     nothing : None ≡ Some up → ⊥
     nothing q = cc
-way_there (Counter ∷ kinds) zero value up e = tt
-way_there (Peak ∷ kinds) zero value true e = tt
+way_there (Counter ∷ kinds) zero value true e = refl
+way_there (Counter ∷ kinds) zero value false e = refl
+way_there (Peak ∷ kinds) zero value true e = refl
 way_there (Peak ∷ kinds) zero value false e = absurd (only_up e)
   where
     only_up : Some true ≡ Some false → ⊥
     only_up q = cc
-way_there (Flag ∷ kinds) zero value true e = tt
+way_there (Flag ∷ kinds) zero value true e = refl
 way_there (Flag ∷ kinds) zero value false e = absurd (only_up e)
   where
     only_up : Some true ≡ Some false → ⊥

@@ -5,6 +5,10 @@ use Rattle.std.specs.Prelude.{ℕ, ◌^◌}
 abbrev pub longest_name : ℕ
 longest_name = 64
 
+-- the longest name of a cell, in bytes: two names with a point between them
+abbrev pub longest_path : ℕ
+longest_path = 129
+
 abbrev pub most_cells : ℕ
 most_cells = 16
 

@@ -2,15 +2,15 @@
 use Rattle.std.specs.Prelude.{◌≡◌, ◌≢◌, ℕ, zero, suc, ◌+◌, ◌≤◌, ◌<◌, List, [], ◌∷◌, length, ℤ, pos, unsigned_abs}
 use Rattle.std.specs.List.{AllByRecursion}
 use Rattle.carol_store.specs.declared.shape.CellKind.{CellKind}
-use Rattle.carol_store.specs.declared.shape.CellKind.TheVariants.{Flag}
-use Rattle.carol_store.specs.Kinds.{CellValue}
+use Rattle.carol_store.specs.declared.shape.CellKind.TheVariants.{Counter, Peak, Flag}
+use Rattle.carol_store.specs.Kinds.{CellValue, number_of}
 use Rattle.carol_store.specs.Stores.{IsStore}
 use Rattle.carol_formula.specs.Linear.{Linear, constant_of}
 use Rattle.carol_formula.specs.Claim.{Claim, True, False, Le, Eq, Ne, And, Or, Not, EachTerm}
 use Rattle.carol_program.specs.declared.steps.Part.{Part}
 use Rattle.carol_program.specs.declared.names.OpNames.{OpNames}
 use Rattle.carol_program.specs.declared.names.Names.{Names}
-use Rattle.carol_program.specs.Limits.{longest_name, most_cells, most_guards, most_ops, most_params, most_queries, most_statements, most_nodes, most_products, most_depth, largest_coefficient, largest_constant, largest_literal}
+use Rattle.carol_program.specs.Limits.{longest_name, longest_path, most_cells, most_guards, most_ops, most_params, most_queries, most_statements, most_nodes, most_products, most_depth, largest_coefficient, largest_constant, largest_literal}
 use Rattle.carol_program.specs.Bodies.{Body, Query, Issue, Release, Branch, Return, queries_in, last_number, depth}
 use Rattle.carol_program.specs.Rules.{OpRules, Rules}
 use Rattle.carol_program.specs.Variables.{AreAmong, invariant_variables, guard_variables, param_variables, outcome_variables, body_variables}
@@ -52,8 +52,9 @@ pub record IsFormulaOver (ranges : List (ℕ × ℕ)) (c : Claim) : Type 0 where
 
 -- an issue may do this to a cell of this kind: what is done to a flag is the constant 1
 abbrev pub IsDoneTo : CellKind → Linear → Type 0
+IsDoneTo Counter t = Unit {0}
+IsDoneTo Peak t = Unit {0}
 IsDoneTo Flag t = t ≡ constant_of (pos 1)
-IsDoneTo kind t = Unit {0}
 
 -- the shape has the cell, and an issue may do this to it
 abbrev pub IsDoneAt : List CellKind → ℕ → Linear → Type 0
@@ -82,7 +83,7 @@ pub record Setting : Type 0 where
 
 -- the variables of a place behind the queries in these slots
 abbrev pub variables_in : Setting → List ℕ → List (ℕ × ℕ)
-variables_in s slots = body_variables (length s.kinds) s.params slots
+variables_in s slots = body_variables s.kinds s.params slots
 
 -- the parts of an issue
 abbrev pub AreParts : Setting → List ℕ → List Part → Type 0
@@ -152,9 +153,10 @@ AreCalled (op ∷ ops) (names ∷ more) = IsCalled op names × AreCalled ops mor
 AreCalled [] (names ∷ more) = ⊥
 AreCalled (op ∷ ops) [] = ⊥
 
--- one name for each cell, guard and operation; a cell's name may have two words
+-- one name for each cell, guard and operation; a cell's name may have two parts
 pub record IsNamed (p : Rules) (names : Names) : Type 0 where
   pub cells : length names.cells ≡ length p.shape
+  pub short_cells : AllByRecursion (λ name. length name ≤ longest_path) names.cells
   pub guards : length names.guards ≡ length p.guards
   pub short_guards : AreShort names.guards
   pub ops : AreCalled p.ops names.ops
@@ -163,8 +165,9 @@ pub record IsNamed (p : Rules) (names : Names) : Type 0 where
 
 -- an initial value: a flag's is 0 or 1, as that of any store, and any other is a literal
 abbrev pub StartsSmall : CellKind → CellValue → Type 0
+StartsSmall Counter start = unsigned_abs (number_of start) ≤ largest_literal
+StartsSmall Peak start = unsigned_abs (number_of start) ≤ largest_literal
 StartsSmall Flag start = Unit {0}
-StartsSmall kind start = unsigned_abs start ≤ largest_literal
 
 abbrev pub StartSmall : List CellKind → List CellValue → Type 0
 StartSmall [] starts = Unit {0}
@@ -177,8 +180,8 @@ pub record AreRules (p : Rules) : Type 0 where
   pub few_ops : length p.ops ≤ most_ops
   pub store : IsStore p.shape p.initial
   pub start : StartSmall p.shape p.initial
-  pub invariant : IsFormulaOver (invariant_variables (length p.shape)) p.invariant
-  pub guards : AllByRecursion (IsFormulaOver (guard_variables (length p.shape))) p.guards
+  pub invariant : IsFormulaOver (invariant_variables p.shape) p.invariant
+  pub guards : AllByRecursion (IsFormulaOver (guard_variables p.shape)) p.guards
   pub ops : AllByRecursion (IsOpOver p.shape (length p.guards)) p.ops
 
 pub record IsWellFormed (p : Rules) (names : Names) : Type 0 where

@@ -1,11 +1,11 @@
 ghost use Rattle.std.specs.Prelude.{◌≡◌, ◌<◌, ◌≤◌, ◌*◌, length, slice_get, Some, IfOk};
 ghost use Rattle.carol_store.specs.Effects.{IsEffect};
-ghost use Rattle.carol_program.specs.Accords.{Accords, IsTable, ways, ways_of, place_of, entry_of, HasWay};
+ghost use Rattle.carol_program.specs.Accords.{Accords, IsTable, row_length, place_of, entry_of, HasWay};
 ghost use Rattle.carol_program.specs.Admitting.{admits, admits_all, is_yes};
 
 use crate::copies::copied_list;
 use carol_formula::Valuation;
-use carol_store::{CellKind, Direction, Effect, Shape};
+use carol_store::{CellKind, Direction, Effect, MOST_CELLS, Shape};
 use sqlite_items::Items;
 use std::alloc::{AllocError, Global};
 use std::marker::Model;
@@ -39,20 +39,10 @@ impl Model for AccordTable {
     ghost invariant = { λ t. IsTable (record { kinds = t.shape; guards = t.guards; entries = t.entries }) };
 }
 
-// How many ways a cell of this kind can go: a counter up and down, any other up.
-fn ways_of(kind: CellKind) -> usize
-    ensures { result ≡ ways_of kind }
-{
-    match kind {
-        CellKind::Counter => 2,
-        CellKind::Peak | CellKind::Flag => 1,
-    }
-}
-
 impl AccordTable {
     /// The table of these entries, of which there are exactly as many as guards, cells and ways.
     pub fn new(shape: &Shape, guards: u32, entries: EntryList) -> AccordTable
-        requires { length entries ≡ guards * ways shape.now }
+        requires { length entries ≡ guards * row_length shape.now }
         ensures { result ≡ record { kinds = shape.now; guards = guards; entries = entries } }
     {
         AccordTable {
@@ -81,7 +71,7 @@ impl AccordTable {
         ensures { entry_of self.now guard cell up ≡ Some result.now }
     {
         let kinds = self.shape.kinds();
-        let place = guard as usize * ways(kinds) + offset(kinds, cell, up);
+        let place = guard as usize * row_length(kinds) + offset(kinds, cell, up);
         &self.entries.as_slice()[place]
     }
 
@@ -117,30 +107,30 @@ impl AccordTable {
     }
 }
 
-#[tactic(auto, using(crate::proofs::Ways::ways_bounds))]
-// How many ways the cells of these kinds can go in all.
-fn ways(kinds: &[CellKind]) -> usize
-    requires { length kinds.now ≤ 16 }
-    ensures count { result ≡ ways kinds.now }
-    ensures few { result ≤ 32 }
+#[tactic(auto, using(crate::proofs::Ways::row_bounds))]
+// How many entries a guard has.
+fn row_length(kinds: &[CellKind]) -> usize
+    requires { length kinds.now ≤ MOST_CELLS }
+    ensures count { result ≡ row_length kinds.now }
+    ensures few { result ≤ 2 * MOST_CELLS }
 {
     let mut left = kinds;
     let mut count = 0;
     while let Some((kind, more)) = left.split_first() {
-        count += ways_of(*kind);
+        count += kind.ways().len();
         left = more;
     }
     count
 }
 
 #[tactic(auto, using(crate::proofs::Ways::places))]
-// The place of the cell's way among all.
+// The place of the cell's way in a guard's row.
 fn offset(kinds: &[CellKind], cell: u32, up: bool) -> usize
-    requires few { length kinds.now ≤ 16 }
+    requires few { length kinds.now ≤ MOST_CELLS }
     requires way { HasWay kinds.now cell up }
     ensures place { result ≡ place_of kinds.now cell up }
-    ensures within { result < ways kinds.now }
+    ensures within { result < row_length kinds.now }
 {
-    let first = ways(&kinds[..cell as usize]);
+    let first = row_length(&kinds[..cell as usize]);
     if up { first } else { first + 1 }
 }

@@ -14,4 +14,4 @@ pub record Kept : Type 0 where
 pub record MayBeKept (program : Program) (accords : Accords) : Type 0 where
   pub well_formed : IsWellFormed (rules_in program) program.names
   pub accepted : IsAccepted (rules_in program)
-  pub right : IsRight (rules_in program).shape (rules_in program).guards accords
+  pub right : IsRight (rules_in program) accords

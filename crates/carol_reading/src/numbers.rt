@@ -3,7 +3,7 @@ ghost use Rattle.carol_program.specs.Variables.{number_of_args, query_variable};
 ghost use Rattle.carol_reading.specs.Readings.{number_or, with_queries};
 
 use carol_formula::{Lookup, Variable};
-use carol_program::OneStore;
+use carol_program::{Arguments, FIRST_QUERIED, OneStore, STORE_VARIABLES};
 use carol_store::Store;
 
 /// The numbers of an operation's variables: its arguments, and the stores of the queries that were
@@ -15,24 +15,11 @@ pub(crate) struct Numbers<'a> {
     pub stores: &'a [Store],
 }
 
-// The argument that is the variable's, or 0.
-fn argument(args: &[i64], v: Variable) -> i128
-    ensures { result ≡ number_of_args args.now v }
-{
-    if v.0 < 32 {
-        return 0;
-    }
-    match args.get((v.0 - 32) as usize) {
-        Some(number) => i128::from(*number),
-        None => 0,
-    }
-}
-
 // The number of the variable in the store of the query in the slot, or the other number.
 fn number_or(number: i128, slot: u32, store: &Store, v: Variable) -> i128
     ensures { result ≡ number_or (query_variable slot 0) store.now number v }
 {
-    let first = 64 + 16 * u64::from(slot);
+    let first = u64::from(FIRST_QUERIED) + u64::from(STORE_VARIABLES) * u64::from(slot);
     let place = u64::from(v.0);
     if place < first {
         return number;
@@ -47,7 +34,7 @@ impl<'a> Lookup for Numbers<'a> {
     ghost numbers = { λ n. with_queries n.slots.now n.stores.now (number_of_args n.args.now) };
 
     fn value_of(&self, v: Variable) -> i128 {
-        let mut number = argument(self.args, v);
+        let mut number = Arguments(self.args).value_of(v);
         let mut slots = self.slots;
         let mut stores = self.stores;
         while let Some((slot, more)) = slots.split_first() {

@@ -2,12 +2,10 @@ ghost use Rattle.std.specs.Prelude.{◌≡◌, ◌<◌, ◌≤◌, ◌+◌, [], 
 ghost use Rattle.carol_program.specs.Limits.{most_queries};
 ghost use Rattle.carol_reading.specs.Walks.{IsKeptWalk};
 
+use carol_program::MOST_QUERIES;
 use carol_store::Store;
 use std::alloc::{AllocError, Global};
 use std::marker::Model;
-
-// How many queries an operation has at most.
-const MOST_STORES: usize = 8;
 
 /// How far an operation has come since its last start: the stores that its queries got, and how
 /// many queries, issues and releases it has done.
@@ -20,14 +18,14 @@ pub struct Walk {
 impl Model for Walk {
     ghost use Rattle.std.specs.Prelude.{◌≡◌, vec_capacity};
     ghost use Rattle.carol_reading.specs.Walks.{Progress, IsKeptWalk};
-    ghost use Rattle.carol_reading.specs.declared.walk.TheConstants.{MOST_STORES};
+    ghost use Rattle.carol_program.specs.declared.limits.TheConstants.{MOST_QUERIES};
 
     ghost Value = { Progress };
 
     ghost view = { λ w. record { stores = w.stores.items; done = w.done } };
 
     ghost invariant = { λ w. IsKeptWalk (record { stores = w.stores.items; done = w.done })
-        × (vec_capacity w.stores ≡ MOST_STORES) };
+        × (vec_capacity w.stores ≡ MOST_QUERIES) };
 }
 
 impl Walk {
@@ -36,7 +34,7 @@ impl Walk {
         ensures { IfOk result (λ w. w ≡ record { stores = []; done = 0 }) }
     {
         Ok(Walk {
-            stores: Vec::with_capacity(alloc, MOST_STORES)?,
+            stores: Vec::with_capacity(alloc, MOST_QUERIES)?,
             done: 0,
         })
     }

@@ -1,10 +1,7 @@
 -- A journal's entries, and what those of them that are chosen come to.
-use Rattle.std.specs.Prelude.{ℕ, List, [], ◌∷◌}
-use Rattle.carol_store.specs.declared.shape.CellKind.{CellKind}
+use Rattle.std.specs.Prelude.{ℕ, List}
 use Rattle.carol_store.specs.declared.effect.Atom.{Atom}
-use Rattle.carol_store.specs.Kinds.{CellValue}
 use Rattle.carol_store.specs.Actions.{chosen_from}
-use Rattle.carol_store.specs.Stores.{StaysInWords, apply}
 use Rattle.carol_holding.specs.Held as held
 
 -- the effects of the entries, numbered from 0, and how many can be added before memory is taken
@@ -17,9 +14,3 @@ pub record Journal : Type 0 where
 abbrev pub held_entries : held.Holding → ℕ → List (List Atom) → List (List Atom)
 held_entries holding replica entries =
     chosen_from (λ entry. held.holds holding replica entry) 0 entries
-
--- no cell leaves its word while the effects are applied one after another
-abbrev pub StayInWords : List CellKind → List (List Atom) → List CellValue → Type 0
-StayInWords shape [] store = Unit {0}
-StayInWords shape (effect ∷ effects) store =
-    StaysInWords shape effect store × StayInWords shape effects (apply shape effect store)

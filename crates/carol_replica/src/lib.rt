@@ -1,5 +1,7 @@
 //! The journal of a replicated store; the store of each replica and of them all, kept while entries
 //! arrive; and the same stores made anew from the journal and what each replica holds of it.
+//!
+//! Layer: machine. Called by `carol_house`.
 #![tactic(auto)]
 
 mod journal;

@@ -1,10 +1,9 @@
 ghost use Rattle.std.specs.Prelude.{◌≡◌, ◌<◌, length, true, if◌then◌else◌};
 ghost use Rattle.std.specs.List.{AllByRecursion};
 ghost use Rattle.carol_store.specs.Effects.{IsEffect};
-ghost use Rattle.carol_store.specs.Stores.{IsStore, StaysInWords, apply, apply_all};
+ghost use Rattle.carol_store.specs.Stores.{IsStore, StaysInWords, apply, apply_all, StayInWords};
 ghost use Rattle.carol_holding.specs.Held.{holds};
-ghost use Rattle.carol_replica.specs.Entries.{StayInWords, held_entries};
-
+ghost use Rattle.carol_replica.specs.Entries.{held_entries};
 use crate::journal::Journal;
 use carol_holding::Holding;
 use carol_store::{Effect, Shape, Store};

@@ -9,8 +9,8 @@ use Rattle.carol_program.specs.declared.scenes.SessionPlan.{SessionPlan}
 use Rattle.carol_event.specs.declared.event.Event.{Event}
 use Rattle.carol_event.specs.Texts.{cause_text, event_line, values_text}
 use Rattle.carol_history.specs.declared.history.TheConstants.{MOST_EVENTS}
-use Rattle.carol_history.specs.declared.outcome.Outcome.{Outcome}
-use Rattle.carol_history.specs.declared.outcome.Outcome.TheVariants.{NotDone, Value, Refused}
+use Rattle.carol_reading.specs.declared.outcome.Outcome.{Outcome}
+use Rattle.carol_reading.specs.declared.outcome.Outcome.TheVariants.{NotDone, Value, Refused}
 use Rattle.carol_history.specs.Acts.{acts}
 use Rattle.carol_history.specs.Journals.{global, local}
 use Rattle.carol_history.specs.Results.{outcomes, result}

@@ -4,8 +4,8 @@ ghost use Rattle.carol_house.specs.House.{HasPlanned};
 ghost use Rattle.carol_report.specs.Report.{commands_text, outcome_text, result_line, results_text};
 
 use carol_event::push_cause;
-use carol_history::Outcome;
 use carol_house::House;
+use carol_reading::Outcome;
 use std::alloc::AllocError;
 use std::fmt::Write;
 

@@ -2,8 +2,7 @@ ghost use Rattle.std.specs.Prelude.{◌≡◌, ◌++◌, IfOk, OnOk, flat_map};
 ghost use Rattle.std.specs.String.{string_bytes};
 ghost use Rattle.carol_event.specs.Texts.{event_line};
 ghost use Rattle.carol_house.specs.House.{rules_of};
-ghost use Rattle.carol_report.specs.Report.{end_line, is_full, last_word};
-ghost use Rattle.carol_report.specs.Report.{report_text, summary_text};
+ghost use Rattle.carol_report.specs.Report.{end_line, is_full, last_word, report_text, summary_text};
 
 use crate::results::push_results;
 use crate::stores::{push_global, push_stores};

@@ -3,8 +3,8 @@ use Rattle.std.proofs.Common.{◌≡◌, ◌≤◌, ℕ, ◌⊎◌, inl, inr, Bo
 use Rattle.std.specs.Prelude.{nat_lt, if◌then◌else◌}
 use Rattle.std.specs.List.{AllByRecursion}
 use Rattle.std.proofs.lemmas.Bool.Decides.{nat_tests}
-use Rattle.carol_resolve_meaning.specs.declared.fault.Fault.{Fault}
-use Rattle.carol_resolve_meaning.specs.Faults.{rank, is_before, IsOf, IsFirst, earliest}
+use Rattle.carol_meaning.specs.declared.fault.Fault.{Fault}
+use Rattle.carol_meaning.specs.Faults.{rank, is_before, IsOf, IsFirst, earliest}
 
 -- ---- the order of places and kinds, on numbers
 

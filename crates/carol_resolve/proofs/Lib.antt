@@ -1,3 +1,14 @@
+pub mod Entries
+pub mod Scopes
+pub mod Branches
+pub mod Chains
+pub mod Changes
+pub mod Places
+pub mod Signs
+pub mod Along
+pub mod Known
+pub mod Params
+pub mod PartLaws
 pub mod First
-pub mod Listed
+pub mod ListedLaws
 pub mod Program

@@ -15,17 +15,17 @@ use Rattle.carol_program.specs.declared.program.Program.{Program}
 use Rattle.carol_program.specs.Rules.{Rules}
 use Rattle.carol_program.specs.WellFormed.{IsWellFormed}
 use Rattle.carol_program.specs.Limits.{most_guards, most_ops}
-use Rattle.carol_resolve_meaning.specs.declared.fault.Fault.{Fault}
-use Rattle.carol_resolve_meaning.specs.Faults.{earliest, fault_at, IsFirst}
-use Rattle.carol_resolve_meaning.specs.Declarations.{twice_in, too_many}
-use Rattle.carol_resolve_meaning.specs.Cells.{cell_faults, titles_in}
-use Rattle.carol_resolve_meaning.specs.Terms.{formula_faults}
-use Rattle.carol_resolve_meaning.specs.Stores.{in_invariant, in_guard}
-use Rattle.carol_resolve_meaning.specs.Bodies.{Around}
-use Rattle.carol_resolve_meaning.specs.Operations.{words, op_faults}
-use Rattle.carol_resolve_meaning.specs.Programs.{around, list_faults, program_faults, names_of}
-use Rattle.carol_resolve_names.proofs.Names.{earliest-two, earliest-three}
-use Rattle.carol_resolve_laws.proofs.Lists.{first-none}
+use Rattle.carol_meaning.specs.declared.fault.Fault.{Fault}
+use Rattle.carol_meaning.specs.Faults.{earliest, fault_at, IsFirst}
+use Rattle.carol_meaning.specs.Declarations.{twice_in, too_many}
+use Rattle.carol_meaning.specs.Cells.{cell_faults, titles_in}
+use Rattle.carol_meaning.specs.Terms.{formula_faults}
+use Rattle.carol_meaning.specs.Stores.{in_invariant, in_guard}
+use Rattle.carol_meaning.specs.Bodies.{Around}
+use Rattle.carol_meaning.specs.Operations.{words, op_faults}
+use Rattle.carol_meaning.specs.Programs.{around, list_faults, program_faults, names_of}
+use Rattle.carol_names.proofs.NameLaws.{earliest-two, earliest-three}
+use Rattle.carol_meaning.proofs.Lists.{first-none}
 use Rattle.carol_resolve.specs.declared.error.NameError.{NameError}
 use Rattle.carol_resolve.specs.declared.error.NameError.TheVariants.{Wrong}
 use Rattle.carol_resolve.proofs.First.{is-first, none-kept}

@@ -1,7 +1,7 @@
 ghost use Rattle.std.specs.Prelude.{◌≡◌};
 
+use carol_meaning::{Fault, NameKind};
 use carol_program::Name;
-use carol_resolve_meaning::{Fault, NameKind};
 use carol_syntax::Span;
 use std::alloc::AllocError;
 use thiserror::Error;

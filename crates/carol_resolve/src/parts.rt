@@ -6,24 +6,20 @@ ghost use Rattle.carol_syntax.specs.Formulas.{formula_tree};
 ghost use Rattle.carol_syntax.specs.Files.{guard_tree, op_tree, program_tree};
 ghost use Rattle.carol_syntax.specs.Shape.{IsNamed, IsOp, IsProgram};
 ghost use Rattle.carol_syntax.specs.Size.{IsSizedNamed, IsSizedOp, IsSizedProgram};
-ghost use Rattle.carol_resolve_meaning.specs.Faults.{earliest};
-ghost use Rattle.carol_resolve_meaning.specs.Terms.{formula_meaning, formula_faults};
-ghost use Rattle.carol_resolve_meaning.specs.Stores.{in_guard};
-ghost use Rattle.carol_resolve_meaning.specs.Operations.{op_faults, op_meaning, op_names};
-ghost use Rattle.carol_resolve_meaning.specs.Programs.{list_faults, program_faults, rules_of, names_of};
+ghost use Rattle.carol_meaning.specs.Faults.{earliest};
+ghost use Rattle.carol_meaning.specs.Terms.{formula_meaning, formula_faults};
+ghost use Rattle.carol_meaning.specs.Stores.{in_guard};
+ghost use Rattle.carol_meaning.specs.Operations.{op_faults, op_meaning, op_names};
+ghost use Rattle.carol_meaning.specs.Programs.{list_faults, program_faults, rules_of, names_of};
 
+use crate::{Around, operation};
 use carol_formula::Formula;
-use carol_program::{Guard, GuardList, OpList, OpNameList};
-use carol_resolve_bodies::Around;
-use carol_resolve_names::{Cells, Finder, note_cells, note_too_many, note_twice};
-use carol_resolve_operations::operation;
-use carol_resolve_stores::{InGuard, InInvariant};
-use carol_resolve_terms::formula;
+use carol_names::{
+    Cells, Finder, InGuard, InInvariant, formula, note_cells, note_too_many, note_twice,
+};
+use carol_program::{Guard, GuardList, MOST_GUARDS, OpList, OpNameList};
 use carol_syntax::{GuardDecl, OpDecl, ProgramDecl};
 use std::alloc::{AllocError, Global};
-
-/// The most guards of a program.
-const MOST_GUARDS: usize = 16;
 
 /// The most operations of a program.
 const MOST_OPS: usize = 64;

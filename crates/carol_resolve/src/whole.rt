@@ -5,17 +5,16 @@ ghost use Rattle.carol_program.specs.WellFormed.{IsWellFormed};
 ghost use Rattle.carol_syntax.specs.Files.{program_tree};
 ghost use Rattle.carol_syntax.specs.Shape.{IsProgram};
 ghost use Rattle.carol_syntax.specs.Size.{IsSizedProgram};
-ghost use Rattle.carol_resolve_meaning.specs.declared.fault.Fault.{Fault};
-ghost use Rattle.carol_resolve_meaning.specs.Faults.{IsFirst};
-ghost use Rattle.carol_resolve_meaning.specs.Cells.{cell_faults};
-ghost use Rattle.carol_resolve_meaning.specs.Programs.{program_faults, rules_of, names_of};
+ghost use Rattle.carol_meaning.specs.declared.fault.Fault.{Fault};
+ghost use Rattle.carol_meaning.specs.Faults.{IsFirst};
+ghost use Rattle.carol_meaning.specs.Cells.{cell_faults};
+ghost use Rattle.carol_meaning.specs.Programs.{program_faults, rules_of, names_of};
 
 use crate::error::NameError;
+use crate::listed;
 use crate::parts::{Parts, find_parts};
+use carol_names::{Finder, initial, shape, titles};
 use carol_program::{Names, Program};
-use carol_resolve_cells::{initial, shape, titles};
-use carol_resolve_names::Finder;
-use carol_resolve_operations::listed;
 use carol_syntax::{File, ProgramDecl};
 use std::alloc::{AllocError, Global};
 

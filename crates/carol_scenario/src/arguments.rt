@@ -9,33 +9,12 @@ ghost use Rattle.carol_program.specs.WellFormed.{AreRefinements};
 ghost use Rattle.carol_scenario.specs.Faults.{Refuses, arguments_faults, call_faults};
 
 use crate::error::SceneError;
-use carol_formula::{Formula, Lookup, Variable};
-use carol_program::Op;
+use carol_formula::Formula;
+use carol_program::{Arguments, Op};
 use carol_store::as_words;
 
 // The largest argument, in absolute value.
 const LARGEST_ARGUMENT: u64 = 1_000_000_000_000;
-
-// The first variable of a parameter.
-const FIRST_PARAMETER: u32 = 32;
-
-// The numbers of arguments: a parameter's variable has its argument.
-#[derive(Clone, Copy)]
-struct Arguments<'a>(&'a [i64]);
-
-impl<'a> Lookup for Arguments<'a> {
-    ghost numbers = { λ a v. number_of_args a.0.now v };
-
-    fn value_of(&self, v: Variable) -> i128 {
-        if v.0 < FIRST_PARAMETER {
-            return 0;
-        }
-        match self.0.get((v.0 - FIRST_PARAMETER) as usize) {
-            Some(argument) => i128::from(*argument),
-            None => 0,
-        }
-    }
-}
 
 // The argument is small enough, and the refinement is true of all arguments.
 fn is_right(refinement: &Formula, argument: i64, args: &[i64]) -> bool

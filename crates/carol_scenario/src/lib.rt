@@ -4,6 +4,8 @@
 //! `specs/` says apart from each other what a declaration stands for, which is total, and what is
 //! wrong with it: a list of faults, one small definition for each rule, in the order in which the
 //! rules are asked. The first fault is the answer.
+//!
+//! Layer: names. `scene` and `generate` are called by the program.
 #![tactic(auto)]
 
 mod arguments;

@@ -4,15 +4,11 @@ ghost use Rattle.carol_scenario.specs.Faults.{Refuses, range_faults};
 use crate::error::{SceneError, SceneLimit};
 use carol_syntax::Num;
 
-pub(crate) const MOST_REPLICAS: u64 = 8;
-
 pub(crate) const MOST_TRIES: u64 = 16;
 
 pub(crate) const MOST_WORKERS: u64 = 16;
 
 pub(crate) const MOST_GOSSIPERS: u64 = 8;
-
-pub(crate) const MOST_SESSIONS: u32 = 64;
 
 /// The most commands of all sessions together, and so the most times that one of them stands.
 pub(crate) const MOST_COMMANDS: u64 = 4096;

@@ -6,9 +6,9 @@ ghost use Rattle.carol_scenario.specs.Meaning.{scene_meaning};
 ghost use Rattle.carol_scenario.specs.Faults.{Refuses, scene_faults};
 
 use crate::error::{SceneError, SceneLimit};
-use crate::limits::{MOST_GOSSIPERS, MOST_REPLICAS, MOST_TRIES, MOST_WORKERS, number_within};
+use crate::limits::{MOST_GOSSIPERS, MOST_TRIES, MOST_WORKERS, number_within};
 use crate::sessions::plans_of;
-use carol_program::{Program, Scene};
+use carol_program::{MOST_REPLICAS, Program, Scene};
 use carol_syntax::SceneDecl;
 use std::alloc::Global;
 
@@ -24,7 +24,7 @@ pub fn scene(alloc: Global, file: &SceneDecl, program: &Program) -> Result<Scene
     ensures wrong { IfErr result
         (Refuses (scene_faults (rules_in program.now) program.now.names file.now)) }
 {
-    let replicas = number_within(SceneLimit::Replicas, 1, MOST_REPLICAS, file.replicas)?;
+    let replicas = number_within(SceneLimit::Replicas, 1, MOST_REPLICAS as u64, file.replicas)?;
     let tries = number_within(SceneLimit::Tries, 1, MOST_TRIES, file.tries)?;
     let workers = number_within(SceneLimit::Workers, 1, MOST_WORKERS, file.workers)?;
     let gossipers = number_within(SceneLimit::Gossipers, 0, MOST_GOSSIPERS, file.gossipers)?;

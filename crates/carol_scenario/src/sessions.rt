@@ -8,8 +8,7 @@ ghost use Rattle.carol_scenario.specs.Faults.{Refuses, times_in, command_faults,
 
 use crate::calls::check_command;
 use crate::error::{SceneError, SceneLimit};
-use crate::limits::MOST_SESSIONS;
-use carol_program::{ArgList, Command, CommandList, PlanList, Program, SessionPlan};
+use carol_program::{ArgList, Command, CommandList, MOST_SESSIONS, PlanList, Program, SessionPlan};
 use carol_syntax::{CommandDecl, SessionDecl};
 use std::alloc::{AllocError, Global};
 
@@ -120,7 +119,7 @@ fn plan_of(
         in let faults = session_faults p names replicas session earlier declaration.now
         in IfErr result (Refuses faults) }
 {
-    if session >= MOST_SESSIONS {
+    if session as usize >= MOST_SESSIONS {
         return Err(SceneError::OutOfRange(SceneLimit::Sessions, declaration.span));
     }
     if declaration.replica.value >= u64::from(replicas) {

@@ -265,7 +265,8 @@ impl Tableau {
             return Ok(());
         }
         self.settle(form)?;
-        self.form_mut(form)?.column = Some(self.columns.len());
+        let column = self.columns.len();
+        self.form_mut(form)?.column = Some(column);
         add(&mut self.columns, form)?;
         self.fuel.spend(self.rows.len())?;
         for row in &mut self.rows {
@@ -344,9 +345,10 @@ impl Tableau {
             value: 0,
         };
         row.reduce()?;
-        self.form_mut(form)?.row = Some(self.rows.len());
+        let number = self.rows.len();
+        self.form_mut(form)?.row = Some(number);
         add(&mut self.rows, row)?;
-        self.add_up(self.rows.len().saturating_sub(1))
+        self.add_up(number)
     }
 
     // The number of the row's form, times the denominator.

@@ -63,7 +63,7 @@ yes_there (Some (No stores)) = (λ e. absurd (clash e), λ e. absurd (other e))
     other : Some (No stores) ≡ Some Yes → ⊥
     other q = cc
 
-module _ (p : Rules) (table : Accords) (right : IsRight p.shape p.guards table) where
+module _ (p : Rules) (table : Accords) (right : IsRight p table) where
   -- directions whose entries are Yes are those that keep the guard
   directions_decided : (guard : ℕ) (claim : Claim) → slice_get p.guards guard ≡ Some claim → (ds : List Direction) → AreWays p.shape ds → (admits_all table guard ds ≡ true) ↔ AllByRecursion (Preserves p.shape claim) ds
   directions_decided guard claim at [] ways = (λ e. tt, λ all. refl)
@@ -76,7 +76,7 @@ module _ (p : Rules) (table : Accords) (right : IsRight p.shape p.guards table) 
         λ all. and_from (is_yes (entry_of table guard d.cell d.up)) (admits_all table guard ds) (told.1 (here.1 all.0)) (rest.1 all.1),
       )
 
-  effect_decided : (guard : ℕ) (claim : Claim) → slice_get p.guards guard ≡ Some claim → (effect : List Atom) → (admits table guard effect ≡ true) ↔ Within p.shape claim effect
+  effect_decided : (guard : ℕ) (claim : Claim) → slice_get p.guards guard ≡ Some claim → (effect : List Atom) → (admits table guard effect ≡ true) ↔ Within p claim effect
   effect_decided guard claim at effect =
       let all = directions_decided guard claim at (directions p.shape effect) (directions_are_ways p.shape effect)
       in let same : admits table guard effect ≡ admits_all table guard (directions p.shape effect) = rw right.same_kinds
@@ -91,15 +91,15 @@ module _ (p : Rules) (table : Accords) (right : IsRight p.shape p.guards table) 
         | inr past ↦ omega (arith, past.0)
       ]
 
-      decided_in : (o : Option Claim) → slice_get p.guards guard ≡ o → (admits table guard effect ≡ true) ↔ AdmitsIn p.shape o effect
+      decided_in : (o : Option Claim) → slice_get p.guards guard ≡ o → (admits table guard effect ≡ true) ↔ AdmitsIn p o effect
       decided_in None e = absurd (there e)
       decided_in (Some claim) e = effect_decided guard claim e effect
 
-  decide_in : (guard : ℕ) (effect : List Atom) (o : Option Claim) → slice_get p.guards guard ≡ o → Decided (AdmitsIn p.shape o effect)
+  decide_in : (guard : ℕ) (effect : List Atom) (o : Option Claim) → slice_get p.guards guard ≡ o → Decided (AdmitsIn p o effect)
   decide_in guard effect None e = inr (λ h. h)
   decide_in guard effect (Some claim) e = told (cases_Bool (admits table guard effect))
     where
-      told : (admits table guard effect ≡ true) ⊎ (admits table guard effect ≡ false) → Decided (Within p.shape claim effect)
+      told : (admits table guard effect ≡ true) ⊎ (admits table guard effect ≡ false) → Decided (Within p claim effect)
       told (inl t) = inl ((effect_decided guard claim e effect).0 t)
       told (inr f) = inr (λ w. clash (sym f ∙ (effect_decided guard claim e effect).1 w))
 

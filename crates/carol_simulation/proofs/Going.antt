@@ -123,7 +123,7 @@ LetsBy p past session effect other guard = other ≢ session → is_live other g
 abbrev LetsIn : Rules → List Event → ℕ → List Atom → ℕ → Type 0
 LetsIn p past session effect other = (guard : ℕ) → guard < length p.guards → LetsBy p past session effect other guard
 
-decide_by : (p : Rules) (table : Accords) (right : IsRight p.shape p.guards table) (past : List Event) (session : ℕ) (effect : List Atom) (other guard : ℕ) → Decided (LetsBy p past session effect other guard)
+decide_by : (p : Rules) (table : Accords) (right : IsRight p table) (past : List Event) (session : ℕ) (effect : List Atom) (other guard : ℕ) → Decided (LetsBy p past session effect other guard)
 decide_by p table right past session effect other guard = told (cases_eq other session) (cases_Bool (is_live other guard past)) (decide_admits p table right guard effect)
   where
     told : (other ≡ session) ⊎ (other ≡ session → ⊥) → (is_live other guard past ≡ true) ⊎ (is_live other guard past ≡ false) → Decided (Admits p guard effect) → Decided (LetsBy p past session effect other guard)
@@ -132,7 +132,7 @@ decide_by p table right past session effect other guard = told (cases_eq other s
     told (inr apart) (inl live) (inl within) = inl (λ ne on. within)
     told (inr apart) (inl live) (inr outside) = inr (λ lets. outside (lets apart live))
 
-decide_lets : (p : Rules) (table : Accords) (right : IsRight p.shape p.guards table) (past : List Event) (session : ℕ) (effect : List Atom) (other : ℕ) → Decided (LetsIn p past session effect other)
+decide_lets : (p : Rules) (table : Accords) (right : IsRight p table) (past : List Event) (session : ℕ) (effect : List Atom) (other : ℕ) → Decided (LetsIn p past session effect other)
 decide_lets p table right past session effect other = told (search_below (LetsBy p past session effect other) (decide_by p table right past session effect other) (length p.guards))
   where
     told : ((guard : ℕ) → guard < length p.guards → LetsBy p past session effect other guard) ⊎ Fails (LetsBy p past session effect other) (length p.guards) → Decided (LetsIn p past session effect other)
@@ -141,7 +141,7 @@ decide_lets p table right past session effect other = told (search_below (LetsBy
 
 -- ---- one event
 
-module _ (laws : AreLaws) (p : Rules) (scene : Scene) (table : Accords) (may : MayRun p scene) (right : IsRight p.shape p.guards table) (past : List Event) (run : Run p scene past) (s : ℕ) where
+module _ (laws : AreLaws) (p : Rules) (scene : Scene) (table : Accords) (may : MayRun p scene) (right : IsRight p table) (past : List Event) (run : Run p scene past) (s : ℕ) where
   named : (guard : ℕ) (x : List CellValue) → Next p scene s (Asked guard x) past → guard < length p.guards
   named guard x next =
       let over : IsOpOver p.shape (length p.guards) next.op = at_place (IsOpOver p.shape (length p.guards)) p.ops next.way.command.op next.op may.rules.ops next.found

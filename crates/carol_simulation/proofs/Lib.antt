@@ -5,3 +5,9 @@ pub mod Steps
 pub mod Whole
 pub mod Deciding
 pub mod Going
+pub mod Sums
+pub mod Prices
+pub mod Tries
+pub mod BoundSessions
+pub mod Events
+pub mod Reach

@@ -36,22 +36,22 @@ store_after_all shape (effect ∷ effects) store is = store_after_all shape effe
 
 -- ---- effects within a guard keep it
 
-within_keeps : StepsReach → (kinds : List CellKind) (guard : Claim) (effect : List Atom) (here there : List CellValue) → IsStore kinds here → IsStore kinds there → Within kinds guard effect → Guards guard here there → Guards guard here (apply kinds effect there)
-within_keeps reach kinds guard effect here there is_here is_there within holds =
-    reach kinds effect (λ store. truth guard (number_in_two here store))
-    (All-from_recursion (StepKeeps kinds (λ store. truth guard (number_in_two here store))) (directions kinds effect) (each (directions kinds effect) within.each))
+within_keeps : StepsReach → (p : Rules) (guard : Claim) (effect : List Atom) (here there : List CellValue) → IsStore p.shape here → IsStore p.shape there → Within p guard effect → Guards guard here there → Guards guard here (apply p.shape effect there)
+within_keeps reach p guard effect here there is_here is_there within holds =
+    reach p.shape effect (λ store. truth guard (number_in_two here store))
+    (All-from_recursion (StepKeeps p.shape (λ store. truth guard (number_in_two here store))) (directions p.shape effect) (each (directions p.shape effect) within.each))
     there is_there holds
   where
-    each : (ds : List Direction) → AllByRecursion (Preserves kinds guard) ds → AllByRecursion (StepKeeps kinds (λ store. truth guard (number_in_two here store))) ds
+    each : (ds : List Direction) → AllByRecursion (Preserves p.shape guard) ds → AllByRecursion (StepKeeps p.shape (λ store. truth guard (number_in_two here store))) ds
     each [] h = tt
     each (d ∷ ds) h = ((λ store is holds. h.0.keeps here store is_here is holds), each ds h.1)
 
-admitted_in : StepsReach → (kinds : List CellKind) (o : Option Claim) (effect : List Atom) (here there : List CellValue) → IsStore kinds here → IsStore kinds there → AdmitsIn kinds o effect → GuardsIn o here there → GuardsIn o here (apply kinds effect there)
-admitted_in reach kinds None effect here there is_here is_there within holds = absurd holds
-admitted_in reach kinds (Some guard) effect here there is_here is_there within holds = within_keeps reach kinds guard effect here there is_here is_there within holds
+admitted_in : StepsReach → (p : Rules) (o : Option Claim) (effect : List Atom) (here there : List CellValue) → IsStore p.shape here → IsStore p.shape there → AdmitsIn p o effect → GuardsIn o here there → GuardsIn o here (apply p.shape effect there)
+admitted_in reach p None effect here there is_here is_there within holds = absurd holds
+admitted_in reach p (Some guard) effect here there is_here is_there within holds = within_keeps reach p guard effect here there is_here is_there within holds
 
 pub admitted_keeps : StepsReach → (p : Rules) (guard : ℕ) (effect : List Atom) (here there : List CellValue) → IsStore p.shape here → IsStore p.shape there → Admits p guard effect → GuardsIn (slice_get p.guards guard) here there → GuardsIn (slice_get p.guards guard) here (apply p.shape effect there)
-admitted_keeps reach p guard effect here there is_here is_there within holds = admitted_in reach p.shape (slice_get p.guards guard) effect here there is_here is_there within holds
+admitted_keeps reach p guard effect here there is_here is_there within holds = admitted_in reach p (slice_get p.guards guard) effect here there is_here is_there within holds
 
 -- ---- from the chosen entries to all of them
 

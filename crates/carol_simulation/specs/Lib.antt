@@ -1,1 +1,2 @@
 pub mod Upheld
+pub mod Laws

@@ -95,13 +95,13 @@ pub record HasForced (p : Rules) (scene : Scene) (session : ℕ) (past : List Ev
 -- there is one as long as a command is under way, where a right table tells what guards admit
 abbrev pub NobodyIsStuck : Type 0
 NobodyIsStuck = (p : Rules) (scene : Scene) (table : Accords) (past : List Event) →
-    MayRun p scene → IsRight p.shape p.guards table → Run p scene past →
+    MayRun p scene → IsRight p table → Run p scene past →
     (session : ℕ) → UnderWay scene session past → HasForced p scene session past
 
 -- a right table admits exactly the effects that are within the guard
 abbrev pub TableDecides : Type 0
 TableDecides = (p : Rules) (table : Accords) (guard : ℕ) (effect : List Atom) →
-    IsRight p.shape p.guards table → guard < length p.guards →
+    IsRight p table → guard < length p.guards →
     (admits table guard effect ≡ true) ↔ Admits p guard effect
 
 -- the command's operation reads what the session's attempt left, which is no return, in rounds as

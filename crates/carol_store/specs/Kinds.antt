@@ -1,5 +1,5 @@
--- What goes by the kind of a cell: what it holds, and what an atom and a step make of that.
-use Rattle.std.specs.Prelude.{◌≡◌, ◌⊎◌, ◌≤◌, Bool, true, false, zero, suc, ℤ, pos, negsuc, ◌+ℤ◌, ◌-ℤ◌, unsigned_abs, Option, Some, None, FitsSigned}
+-- What goes by the kind of a cell: what it holds, the ways that it can go, and what an atom and a step make of it.
+use Rattle.std.specs.Prelude.{◌≡◌, ◌⊎◌, ◌≤◌, Bool, true, false, not, ◌||◌, if◌then◌else◌, zero, suc, List, [], ◌∷◌, ℤ, pos, negsuc, ◌+ℤ◌, ◌-ℤ◌, unsigned_abs, Option, Some, None, FitsSigned}
 use Rattle.std.specs.Int.{w64, int_max}
 use Rattle.carol_store.specs.declared.shape.CellKind.{CellKind}
 use Rattle.carol_store.specs.declared.shape.CellKind.TheVariants.{Counter, Peak, Flag}
@@ -12,6 +12,14 @@ CellValue = ℤ
 -- it is kept in a word of 64 bits with a sign
 abbrev pub IsWord : CellValue → Type 0
 IsWord value = FitsSigned w64 value
+
+-- the number by which formulas and terms see a value
+abbrev pub number_of : CellValue → ℤ
+number_of value = value
+
+-- the value of a cell of this kind that a number stands for
+abbrev pub value_of : CellKind → ℤ → CellValue
+value_of kind number = number
 
 -- a cell of this kind may hold the value
 abbrev pub MayHold : CellKind → CellValue → Type 0
@@ -30,6 +38,21 @@ abbrev pub changed : CellKind → CellValue → ℤ → CellValue
 changed Counter value amount = value +ℤ amount
 changed Peak value target = int_max value target
 changed Flag value one = pos 1
+
+-- the ways that such a cell can go, up before down
+abbrev pub ways : CellKind → List Bool
+ways Counter = true ∷ false ∷ []
+ways Peak = true ∷ []
+ways Flag = true ∷ []
+
+-- the way up, or the way down, is one of these
+abbrev pub is_way : Bool → List Bool → Bool
+is_way up [] = false
+is_way up (way ∷ more) = (if up then way else not way) || is_way up more
+
+-- such a cell can go up, or down
+abbrev pub can_go : CellKind → Bool → Bool
+can_go kind up = is_way up (ways kind)
 
 -- whether an atom's value moves such a cell up or down, if it moves it
 abbrev pub way : CellKind → ℤ → Option Bool

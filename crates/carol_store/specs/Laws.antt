@@ -39,11 +39,16 @@ EffectsAddLittle =
     IsEffect shape effect → MOST_TARGET ≤ bound → bound + MOST_AMOUNT < 2 ^ 63 →
     AreWithin bound store → AddsLittle shape effect bound store
 
--- what is true of a store stays true where it makes one step in the direction
-abbrev pub StepKeeps : List CellKind → (List CellValue → Bool) → Direction → Type 0
-StepKeeps shape holds direction =
+-- what is true of a store stays true after the step
+abbrev pub Keeps :
+    List CellKind → (List CellValue → Bool) → (List CellValue → List CellValue) → Type 0
+Keeps shape holds step =
     (store : List CellValue) → IsStore shape store → holds store ≡ true →
-    holds (unit_step shape direction store) ≡ true
+    holds (step store) ≡ true
+
+-- so it is with one step in the direction
+abbrev pub StepKeeps : List CellKind → (List CellValue → Bool) → Direction → Type 0
+StepKeeps shape holds direction = Keeps shape holds (unit_step shape direction)
 
 -- what each step in a direction of the effect keeps, the effect keeps
 abbrev pub StepsReach : Type 0

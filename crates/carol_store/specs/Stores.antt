@@ -43,3 +43,9 @@ abbrev pub StaysInWords : List CellKind → List Atom → List CellValue → Typ
 StaysInWords shape [] store = Unit {0}
 StaysInWords shape (atom ∷ atoms) store =
     AreWords (with_cell shape atom store) × StaysInWords shape atoms (with_cell shape atom store)
+
+-- nor while the effects are applied one after another
+abbrev pub StayInWords : List CellKind → List (List Atom) → List CellValue → Type 0
+StayInWords shape [] store = Unit {0}
+StayInWords shape (effect ∷ effects) store =
+    StaysInWords shape effect store × StayInWords shape effects (apply shape effect store)

@@ -5,6 +5,8 @@
 //! further kind is added there. That the order of effects makes no difference, and what entries
 //! chosen from a list come to, is shown in `proofs/Actions` and `proofs/Chosen` once for any
 //! changes that commute.
+//!
+//! Layer: machine. Called by all that holds or changes stores.
 #![tactic(auto)]
 
 mod direction;

@@ -1,4 +1,5 @@
 ghost use Rattle.std.specs.Prelude.{◌≡◌, ◌≤◌, length};
+ghost use Rattle.carol_store.specs.Kinds.{ways, can_go};
 
 use crate::short_list::{MOST_CELLS, ShortList};
 use std::alloc::Global;
@@ -14,6 +15,28 @@ pub enum CellKind {
     Peak,
     /// 0 or 1, which an atom makes 1.
     Flag,
+}
+
+impl CellKind {
+    /// The ways that a cell of this kind can go: up, and a counter down, too.
+    pub fn ways(self) -> &'static [bool]
+        ensures { result.now ≡ ways self }
+    {
+        match self {
+            CellKind::Counter => &[true, false],
+            CellKind::Peak | CellKind::Flag => &[true],
+        }
+    }
+
+    /// Whether a cell of this kind can go up, or down.
+    pub fn can_go(self, up: bool) -> bool
+        ensures { result ≡ can_go self up }
+    {
+        match self {
+            CellKind::Counter => true,
+            CellKind::Peak | CellKind::Flag => up,
+        }
+    }
 }
 
 /// The kinds of a program's cells, in their order. Contracts see it as that list.

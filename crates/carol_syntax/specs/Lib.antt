@@ -6,3 +6,8 @@ pub mod Unplaced
 pub mod Words
 pub mod Shape
 pub mod Size
+pub mod Keywords
+pub mod Place
+pub mod First
+pub mod Cut
+pub mod Tokens

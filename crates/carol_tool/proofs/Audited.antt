@@ -2,18 +2,18 @@
 use Rattle.std.proofs.Common.{◌≡◌, ◌≢◌, List, ℕ, refl, sym, ◌∙◌, ap, subst}
 use Rattle.std.specs.Prelude.{Option, None, Some, Result, Ok, Err, IfOk, drop}
 use Rattle.std.specs.declared.alloc.AllocError.{AllocError}
-use Rattle.carol_audit_tail.specs.declared.error.TailError.{TailError}
-use Rattle.carol_audit_tail.specs.declared.error.TailError.TheVariants as tail_error
-use Rattle.carol_audit_tail.specs.Laws.{FaultsAreSingle, ReadHasNoFault}
+use Rattle.carol_audit.specs.declared.error.TailError.{TailError}
+use Rattle.carol_audit.specs.declared.error.TailError.TheVariants as tail_error
+use Rattle.carol_audit.specs.TailLaws.{FaultsAreSingle, ReadHasNoFault}
 use Rattle.carol_program.specs.declared.scenes.Scene.{Scene}
 use Rattle.carol_program.specs.Rules.{Rules, rules_in}
 use Rattle.carol_reading.specs.Kept.{Kept}
 use Rattle.carol_syntax.specs.declared.scenes.SceneDecl.{SceneDecl}
 use Rattle.carol_syntax.specs.Files.{ProgramTree}
-use Rattle.carol_transcript.specs.declared.finding.Finding.{Finding}
-use Rattle.carol_transcript.specs.declared.finding.Finding.TheVariants.{Genuine, FalseEvent, FalseLine}
-use Rattle.carol_transcript.specs.Findings.{Finds, IsExact}
-use Rattle.carol_transcript.specs.Laws.{FindingsAreSingle}
+use Rattle.carol_audit.specs.declared.finding.Finding.{Finding}
+use Rattle.carol_audit.specs.declared.finding.Finding.TheVariants.{Genuine, FalseEvent, FalseLine}
+use Rattle.carol_audit.specs.Findings.{Finds, IsExact}
+use Rattle.carol_audit.specs.Laws.{FindingsAreSingle}
 use Rattle.carol_tool.specs.Audit.{FileSays, IsAudited, IsReadTo, PartsSay, TailSays, finding_answer, line_at, tail_line}
 use Rattle.carol_tool.specs.Answer.{IsOwn}
 use Rattle.carol_tool.specs.Reply.{answer_of}

@@ -8,12 +8,12 @@ use Rattle.carol_program.specs.Preserving.{IsRight}
 use Rattle.carol_program.specs.Rules.{Rules, rules_in}
 use Rattle.carol_reading.specs.Good.{IsAccepted}
 use Rattle.carol_reading.specs.Kept.{Kept}
-use Rattle.carol_report_accords.specs.Texts.{accord_text}
+use Rattle.carol_accept.specs.Texts.{accord_text}
 use Rattle.carol_resolve.specs.declared.error.NameError.{NameError}
 use Rattle.carol_resolve.specs.declared.error.NameError.TheVariants.{Wrong}
-use Rattle.carol_resolve_meaning.specs.declared.fault.Fault.{Fault}
-use Rattle.carol_resolve_meaning.specs.Faults.{IsFirst}
-use Rattle.carol_resolve_meaning.specs.Programs.{names_of, program_faults, rules_of}
+use Rattle.carol_meaning.specs.declared.fault.Fault.{Fault}
+use Rattle.carol_meaning.specs.Faults.{IsFirst}
+use Rattle.carol_meaning.specs.Programs.{names_of, program_faults, rules_of}
 use Rattle.carol_syntax.specs.Files.{ProgramTree}
 use Rattle.carol_tool.specs.Answer.{IsOwn}
 use Rattle.carol_tool.specs.Check.{IsToldAccepted, IsToldRefused, ProgramSays, TreeSays, VerdictSays}
@@ -47,9 +47,9 @@ told_is_accepted p q a same h = subst IsAccepted same h.is_kept.may_be.accepted
 
 -- a table that is told is whole
 whole_in : (p : Program) (a : Answer) (tree : ProgramTree) → rules_in p ≡ rules_of tree → (h : IsToldAccepted p a)
-    → IsWhole (rules_of tree).shape (rules_of tree).guards h.kept.accords
+    → IsWhole (rules_of tree) h.kept.accords
 whole_in p a tree same h = record {
-  right = subst (λ (r : Rules). IsRight r.shape r.guards h.kept.accords) same h.is_kept.may_be.right;
+  right = subst (λ (r : Rules). IsRight r h.kept.accords) same h.is_kept.may_be.right;
   whole = h.is_kept.whole;
 }
 

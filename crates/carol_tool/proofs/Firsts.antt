@@ -3,10 +3,10 @@ use Rattle.std.proofs.Common.{◌≡◌, ℕ, zero, suc, Bool, false, List, [], 
 use Rattle.std.specs.Prelude.{nat_lt, ◌==◌, ◌&&◌, ◌||◌}
 use Rattle.std.specs.List.{AllByRecursion}
 use Rattle.std.proofs.lemmas.Bool.Decides.{nat_tests}
-use Rattle.carol_resolve_meaning.specs.declared.fault.NameKind.{NameKind}
-use Rattle.carol_resolve_meaning.specs.declared.fault.NameKind.TheVariants.{Twice, Unknown, WrongKind, TooMany, TooWide}
-use Rattle.carol_resolve_meaning.specs.declared.fault.Fault.{Fault}
-use Rattle.carol_resolve_meaning.specs.Faults.{IsFirst, IsOf, is_before, rank}
+use Rattle.carol_meaning.specs.declared.fault.NameKind.{NameKind}
+use Rattle.carol_meaning.specs.declared.fault.NameKind.TheVariants.{Twice, Unknown, WrongKind, TooMany, TooWide}
+use Rattle.carol_meaning.specs.declared.fault.Fault.{Fault}
+use Rattle.carol_meaning.specs.Faults.{IsFirst, IsOf, is_before, rank}
 use Rattle.carol_tool.specs.declared.reply.Line.TheVariants as line
 use Rattle.carol_tool.specs.Told.{name_line}
 

@@ -10,10 +10,10 @@ use Rattle.carol_reading.specs.Kept.{Kept}
 use Rattle.carol_simulation.specs.Upheld.{MayRun}
 use Rattle.carol_syntax.specs.declared.scenes.SceneDecl.{SceneDecl}
 use Rattle.carol_syntax.specs.Files.{ProgramTree}
-use Rattle.carol_transcript.specs.declared.finding.Finding.{Finding}
-use Rattle.carol_transcript.specs.declared.finding.Finding.TheVariants.{Genuine, FalseEvent, FalseLine}
-use Rattle.carol_transcript.specs.Findings.{Finds, IsReportOf}
-use Rattle.carol_transcript.specs.Laws.{ReportsAreRead, ReportsAreSingle}
+use Rattle.carol_audit.specs.declared.finding.Finding.{Finding}
+use Rattle.carol_audit.specs.declared.finding.Finding.TheVariants.{Genuine, FalseEvent, FalseLine}
+use Rattle.carol_audit.specs.Findings.{Finds, IsReportOf}
+use Rattle.carol_audit.specs.Laws.{ReportsAreRead, ReportsAreSingle}
 use Rattle.carol_tool.specs.Audit.{IsAudited, TailSays, finding_answer}
 use Rattle.carol_tool.specs.AuditLaws.{FoundAreReports, IsReported, ReportsAreFound}
 use Rattle.carol_tool.specs.Says.{Agree, FixesStatus}

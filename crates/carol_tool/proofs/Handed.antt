@@ -6,9 +6,9 @@ use Rattle.carol_program.specs.declared.program.Program.{Program}
 use Rattle.carol_program.specs.Rules.{Rules, rules_in}
 use Rattle.carol_resolve.specs.declared.error.NameError.{NameError}
 use Rattle.carol_resolve.specs.declared.error.NameError.TheVariants as name
-use Rattle.carol_resolve_meaning.specs.declared.fault.Fault.{Fault}
-use Rattle.carol_resolve_meaning.specs.Faults.{IsFirst}
-use Rattle.carol_resolve_meaning.specs.Programs.{names_of, program_faults, rules_of}
+use Rattle.carol_meaning.specs.declared.fault.Fault.{Fault}
+use Rattle.carol_meaning.specs.Faults.{IsFirst}
+use Rattle.carol_meaning.specs.Programs.{names_of, program_faults, rules_of}
 use Rattle.carol_scenario.specs.Faults.{first_of, scene_faults}
 use Rattle.carol_syntax.specs.declared.scenes.SceneDecl.{SceneDecl}
 use Rattle.carol_syntax.specs.Files.{ProgramTree}

@@ -6,11 +6,11 @@ use Rattle.carol_parse.specs.declared.error.TextError.{TextError}
 use Rattle.carol_parse.specs.declared.error.TextError.TheVariants as text
 use Rattle.carol_resolve.specs.declared.error.NameError.{NameError}
 use Rattle.carol_resolve.specs.declared.error.NameError.TheVariants as name
-use Rattle.carol_resolve_meaning.specs.declared.fault.Fault.{Fault}
-use Rattle.carol_resolve_meaning.specs.Faults.{IsFirst}
-use Rattle.carol_resolve_meaning.specs.Programs.{program_faults}
+use Rattle.carol_meaning.specs.declared.fault.Fault.{Fault}
+use Rattle.carol_meaning.specs.Faults.{IsFirst}
+use Rattle.carol_meaning.specs.Programs.{program_faults}
 use Rattle.carol_syntax.specs.Files.{FileTree, ProgramTree}
-use Rattle.carol_syntax_meaning.specs.Outcome.{Outcome, Read, Bad, Large, Means}
+use Rattle.carol_grammar.specs.Outcome.{Outcome, Read, Bad, Large, Means}
 use Rattle.carol_tool.specs.Reply.{IsSole}
 use Rattle.carol_tool.specs.Texts.{Answer, line_answer}
 use Rattle.carol_tool.specs.Told.{BytesSay, NamesSay, OutcomeSays, name_answer, name_line, text_answer}

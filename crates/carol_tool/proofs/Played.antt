@@ -7,7 +7,7 @@ use Rattle.carol_history.specs.declared.script.BadStatement.{BadStatement}
 use Rattle.carol_history.specs.declared.script.Statement.{Statement}
 use Rattle.carol_history.specs.Scripts.{ComesTo, Scripted}
 use Rattle.carol_house.specs.House.{House, rules_of}
-use Rattle.carol_house_script.specs.Plays.{Plays}
+use Rattle.carol_report.specs.Plays.{Plays}
 use Rattle.carol_program.specs.declared.scenes.Scene.{Scene}
 use Rattle.carol_program.specs.Rules.{Rules, rules_in}
 use Rattle.carol_reading.specs.Kept.{Kept}

@@ -5,7 +5,7 @@ use Rattle.std.specs.declared.alloc.AllocError.{AllocError}
 use Rattle.carol_parse.specs.Answer.{IsMeant, IsOnlyMeant}
 use Rattle.carol_parse.specs.declared.error.TextError.{TextError}
 use Rattle.carol_syntax.specs.Files.{FileTree, ProgramTree}
-use Rattle.carol_syntax_meaning.specs.Outcome.{Outcome, Read, Bad, Large, Means}
+use Rattle.carol_grammar.specs.Outcome.{Outcome, Read, Bad, Large, Means}
 use Rattle.carol_tool.specs.Answer.{IsOwn, IsReply}
 use Rattle.carol_tool.specs.Reply.{answer_of}
 use Rattle.carol_tool.specs.Says.{Agree, Says}

@@ -8,8 +8,8 @@ use Rattle.carol_program.specs.Rules.{Rules, rules_in}
 use Rattle.carol_program.specs.Scenes.{IsValidScene}
 use Rattle.carol_reading.specs.Good.{IsAccepted}
 use Rattle.carol_reading.specs.Kept.{Kept}
-use Rattle.carol_resolve_meaning.specs.Faults.{IsFirst}
-use Rattle.carol_resolve_meaning.specs.Programs.{names_of, program_faults, rules_of}
+use Rattle.carol_meaning.specs.Faults.{IsFirst}
+use Rattle.carol_meaning.specs.Programs.{names_of, program_faults, rules_of}
 use Rattle.carol_scenario.specs.declared.error.SceneError.{SceneError}
 use Rattle.carol_scenario.specs.Faults.{first_of, scene_faults}
 use Rattle.carol_scenario.specs.Meaning.{scene_meaning}

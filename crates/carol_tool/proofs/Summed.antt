@@ -2,12 +2,12 @@
 use Rattle.std.proofs.Common.{◌≡◌, ℕ, List, [], sym, ◌∙◌, ap, subst}
 use Rattle.std.specs.Prelude.{None, Some, Result, Ok, Err, IfOk}
 use Rattle.std.specs.declared.alloc.AllocError.{AllocError}
-use Rattle.carol_bound.specs.Laws.{RunsAreShort}
+use Rattle.carol_simulation.specs.Laws.{RunsAreShort}
 use Rattle.carol_event.specs.declared.event.Event.{Event}
 use Rattle.carol_house.specs.House.{House, IsHistory, IsOverSame, UpholdsAll, rules_of}
-use Rattle.carol_house_summary.specs.Summary.{summary_text}
-use Rattle.carol_house_turns.specs.Laws.{TurnsMakeOne}
-use Rattle.carol_house_turns.specs.Turns.{Turns}
+use Rattle.carol_report.specs.Summary.{summary_text}
+use Rattle.carol_report.specs.Laws.{TurnsMakeOne}
+use Rattle.carol_report.specs.Turns.{Turns}
 use Rattle.carol_parse.specs.Answer.{IsMeant, IsOnlyMeant}
 use Rattle.carol_parse.specs.declared.error.TextError.{TextError}
 use Rattle.carol_program.specs.declared.scenes.Scene.{Scene}
@@ -15,7 +15,7 @@ use Rattle.carol_program.specs.Rules.{Rules, rules_in}
 use Rattle.carol_reading.specs.Kept.{Kept}
 use Rattle.carol_scenario.specs.Generated.{generated_text}
 use Rattle.carol_syntax.specs.Files.{FileTree}
-use Rattle.carol_syntax_meaning.specs.Outcome.{Outcome, Read, Means}
+use Rattle.carol_grammar.specs.Outcome.{Outcome, Read, Means}
 use Rattle.carol_tool.specs.Answer.{IsReply}
 use Rattle.carol_tool.specs.Gen.{FileSums, IsSummed, SceneSums}
 use Rattle.carol_tool.specs.Reply.{answer_of}

@@ -1,12 +1,12 @@
 -- Sessions that go on in turn cut and join nothing.
 use Rattle.std.proofs.Common.{◌≡◌, ◌≤◌, ◌+◌, ℕ, zero, suc, List, [], ◌∷◌, length, inl, inr, refl, ◌∙◌, ap, arith}
-use Rattle.carol_bound.specs.Laws.{RunsAreShort}
+use Rattle.carol_simulation.specs.Laws.{RunsAreShort}
 use Rattle.carol_event.specs.declared.event.Event.{Event}
 use Rattle.carol_event.specs.declared.event.Event.TheVariants as event
 use Rattle.carol_history.specs.Bounds.{links, most_events}
 use Rattle.carol_history.specs.Forced.{Forced}
 use Rattle.carol_history.specs.Runs.{Run}
-use Rattle.carol_house_turns.specs.Turns.{Rounds, Turn, TurnOfEach, Turns}
+use Rattle.carol_report.specs.Turns.{Rounds, Turn, TurnOfEach, Turns}
 use Rattle.carol_program.specs.declared.scenes.Scene.{Scene}
 use Rattle.carol_program.specs.Rules.{Rules}
 use Rattle.carol_program.specs.Scenes.{IsValidScene}

@@ -1,8 +1,8 @@
 -- What `audit` answers.
 use Rattle.std.specs.Prelude.{◌≡◌, ℕ, ◌+◌, ◌==◌, List, ◌++◌, Option, Some, None, codes, decimal, take, drop, count_by}
-use Rattle.carol_audit_tail.specs.declared.error.TailError.{TailError}
-use Rattle.carol_audit_tail.specs.declared.error.TailError.TheVariants as tail_error
-use Rattle.carol_audit_tail.specs.Tails.{HasEvents, IsFault}
+use Rattle.carol_audit.specs.declared.error.TailError.{TailError}
+use Rattle.carol_audit.specs.declared.error.TailError.TheVariants as tail_error
+use Rattle.carol_audit.specs.Tails.{HasEvents, IsFault}
 use Rattle.carol_event.specs.declared.event.Event.{Event}
 use Rattle.carol_program.specs.declared.scenes.Scene.{Scene}
 use Rattle.carol_program.specs.Rules.{rules_in}
@@ -10,9 +10,9 @@ use Rattle.carol_reading.specs.Kept.{Kept}
 use Rattle.carol_report.specs.Report.{line_feed}
 use Rattle.carol_syntax.specs.declared.scenes.SceneDecl.{SceneDecl}
 use Rattle.carol_syntax.specs.Files.{FileTree, ProgramTree}
-use Rattle.carol_transcript.specs.declared.finding.Finding.{Finding}
-use Rattle.carol_transcript.specs.declared.finding.Finding.TheVariants.{Genuine, FalseEvent, FalseLine}
-use Rattle.carol_transcript.specs.Findings.{Finds, IsExact}
+use Rattle.carol_audit.specs.declared.finding.Finding.{Finding}
+use Rattle.carol_audit.specs.declared.finding.Finding.TheVariants.{Genuine, FalseEvent, FalseLine}
+use Rattle.carol_audit.specs.Findings.{Finds, IsExact}
 use Rattle.carol_tool.specs.Staged.{StagedSays, TakesSay, both}
 use Rattle.carol_tool.specs.Texts.{Answer}
 use Rattle.carol_tool.specs.Told.{BytesSay}

@@ -5,8 +5,8 @@ use Rattle.carol_program.specs.Rules.{rules_in}
 use Rattle.carol_reading.specs.Kept.{Kept}
 use Rattle.carol_syntax.specs.declared.scenes.SceneDecl.{SceneDecl}
 use Rattle.carol_syntax.specs.Files.{ProgramTree}
-use Rattle.carol_transcript.specs.declared.finding.Finding.TheVariants.{Genuine}
-use Rattle.carol_transcript.specs.Findings.{IsReportOf}
+use Rattle.carol_audit.specs.declared.finding.Finding.TheVariants.{Genuine}
+use Rattle.carol_audit.specs.Findings.{IsReportOf}
 use Rattle.carol_tool.specs.Audit.{TailSays, finding_answer}
 use Rattle.carol_tool.specs.Staged.{IsReady, scene_of}
 use Rattle.carol_tool.specs.Texts.{Answer}

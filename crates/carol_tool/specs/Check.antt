@@ -8,8 +8,8 @@ use Rattle.carol_program.specs.declared.program.Program.{Program}
 use Rattle.carol_program.specs.Rules.{rules_in}
 use Rattle.carol_reading.specs.Good.{IsAccepted}
 use Rattle.carol_reading.specs.Kept.{Kept}
-use Rattle.carol_report_accords.specs.Texts.{accord_text}
-use Rattle.carol_resolve_meaning.specs.Programs.{names_of, rules_of}
+use Rattle.carol_accept.specs.Texts.{accord_text}
+use Rattle.carol_meaning.specs.Programs.{names_of, rules_of}
 use Rattle.carol_syntax.specs.Files.{ProgramTree}
 use Rattle.carol_tool.specs.Texts.{Answer}
 use Rattle.carol_tool.specs.Told.{BytesSay, NamesSay}

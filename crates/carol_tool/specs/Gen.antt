@@ -4,8 +4,8 @@ use Rattle.carol_event.specs.declared.event.Event.{Event}
 use Rattle.carol_history.specs.declared.history.TheConstants.{MOST_EVENTS}
 use Rattle.carol_history.specs.Bounds.{most_events}
 use Rattle.carol_history.specs.Runs.{Run}
-use Rattle.carol_house_summary.specs.Summary.{summary_text}
-use Rattle.carol_house_turns.specs.Turns.{Turns}
+use Rattle.carol_report.specs.Summary.{summary_text}
+use Rattle.carol_report.specs.Turns.{Turns}
 use Rattle.carol_program.specs.declared.scenes.Scene.{Scene}
 use Rattle.carol_program.specs.Rules.{rules_in}
 use Rattle.carol_reading.specs.Kept.{Kept}

@@ -5,9 +5,9 @@ use Rattle.carol_program.specs.declared.program.Program.{Program}
 use Rattle.carol_program.specs.declared.scenes.Scene.{Scene}
 use Rattle.carol_program.specs.Rules.{rules_in}
 use Rattle.carol_reading.specs.Kept.{Kept}
-use Rattle.carol_resolve_meaning.specs.declared.fault.Fault.{Fault}
-use Rattle.carol_resolve_meaning.specs.Faults.{IsFirst}
-use Rattle.carol_resolve_meaning.specs.Programs.{program_faults, rules_of, names_of}
+use Rattle.carol_meaning.specs.declared.fault.Fault.{Fault}
+use Rattle.carol_meaning.specs.Faults.{IsFirst}
+use Rattle.carol_meaning.specs.Programs.{program_faults, rules_of, names_of}
 use Rattle.carol_scenario.specs.declared.error.SceneError.{SceneError}
 use Rattle.carol_scenario.specs.Faults.{scene_faults, first_of}
 use Rattle.carol_scenario.specs.Meaning.{scene_meaning}

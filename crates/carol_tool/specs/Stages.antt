@@ -2,7 +2,7 @@
 use Rattle.std.specs.Prelude.{◌≡◌, ◌⊎◌, [], Option, Some, None}
 use Rattle.carol_accept.specs.Refusals.{IsKeptAs}
 use Rattle.carol_house.specs.House.{rules_of}
-use Rattle.carol_house_script.specs.declared.script.Played.{Played}
+use Rattle.carol_report.specs.declared.script.Played.{Played}
 use Rattle.carol_program.specs.declared.program.Program.{Program}
 use Rattle.carol_program.specs.declared.scenes.Scene.{Scene}
 use Rattle.carol_program.specs.Rules.{rules_in}

@@ -8,14 +8,14 @@ use Rattle.carol_history.specs.declared.script.ScriptCause.TheVariants as cause
 use Rattle.carol_outer.specs.declared.whole.ReadError.{ReadError}
 use Rattle.carol_outer.specs.declared.whole.ReadError.TheVariants as read
 use Rattle.carol_report.specs.Report.{line_feed}
-use Rattle.carol_resolve_meaning.specs.declared.fault.NameKind.{NameKind}
-use Rattle.carol_resolve_meaning.specs.declared.fault.NameKind.TheVariants as kind
+use Rattle.carol_meaning.specs.declared.fault.NameKind.{NameKind}
+use Rattle.carol_meaning.specs.declared.fault.NameKind.TheVariants as kind
 use Rattle.carol_scenario.specs.declared.error.SceneError.{SceneError}
 use Rattle.carol_scenario.specs.declared.error.SceneError.TheVariants as fault
 use Rattle.carol_scenario.specs.declared.error.SceneLimit.{SceneLimit}
 use Rattle.carol_scenario.specs.declared.error.SceneLimit.TheVariants as range
-use Rattle.carol_syntax_meaning.specs.declared.limit.TextLimit.{TextLimit}
-use Rattle.carol_syntax_meaning.specs.declared.limit.TextLimit.TheVariants as limit
+use Rattle.carol_grammar.specs.declared.limit.TextLimit.{TextLimit}
+use Rattle.carol_grammar.specs.declared.limit.TextLimit.TheVariants as limit
 use Rattle.carol_tool.specs.declared.command.Command.{Command}
 use Rattle.carol_tool.specs.declared.command.Command.TheVariants as command
 use Rattle.carol_tool.specs.declared.reply.Stop.{Stop}

@@ -1,5 +1,5 @@
 ghost use Rattle.std.specs.Prelude.{◌≡◌, ◌+◌, ◌<◌, ◌≤◌, None, Some, length, take, drop, IfOk};
-ghost use Rattle.carol_audit_tail.specs.Tails.{HasEvents};
+ghost use Rattle.carol_audit.specs.Tails.{HasEvents};
 ghost use Rattle.carol_program.specs.Rules.{rules_in};
 ghost use Rattle.carol_program.specs.Scenes.{IsValidScene};
 ghost use Rattle.carol_syntax.specs.Files.{file_tree, program_tree};
@@ -7,8 +7,7 @@ ghost use Rattle.carol_syntax.specs.Shape.{IsProgram};
 ghost use Rattle.carol_syntax.specs.Size.{IsSizedProgram};
 ghost use Rattle.carol_syntax.specs.Limits.{most_text_bytes};
 ghost use Rattle.carol_tool.specs.Answer.{IsReply};
-ghost use Rattle.carol_tool.specs.Audit.{FileSays, IsAudited, IsReadTo, PartsSay, TailSays};
-ghost use Rattle.carol_tool.specs.Audit.{feeds_in, finding_answer, tail_line};
+ghost use Rattle.carol_tool.specs.Audit.{FileSays, IsAudited, IsReadTo, PartsSay, TailSays, feeds_in, finding_answer, tail_line};
 ghost use Rattle.carol_tool.specs.Reply.{answer_of};
 
 use super::command::Command;
@@ -16,13 +15,12 @@ use super::reply::{Line, Reply, one_line};
 use super::staged::{Stage, staged};
 use super::status::Status;
 use super::told::bad_text;
-use carol_audit_tail::{TailError, read_events, tail_laws};
+use carol_audit::{Finding, TailError, judge, read_events, tail_laws, transcript_laws};
 use carol_event::Event;
 use carol_parse::parse;
 use carol_program::Scene;
 use carol_reading::Accepted;
 use carol_syntax::{File, SceneDecl};
-use carol_transcript::{Finding, judge, transcript_laws};
 use std::alloc::{AllocError, Global};
 use std::thread::Threads;
 

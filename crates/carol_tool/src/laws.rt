@@ -1,7 +1,6 @@
 ghost use Rattle.carol_tool.specs.AuditLaws.{FoundAreReports, ReportsAreFound};
 
-use carol_audit_tail::tail_laws;
-use carol_transcript::transcript_laws;
+use carol_audit::{tail_laws, transcript_laws};
 
 /// What holds of the answers of `audit`: transcripts that are reports of an accepted program are
 /// genuine, and no others. It does nothing, and is called for its clauses.

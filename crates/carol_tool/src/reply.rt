@@ -14,9 +14,9 @@ ghost use Rattle.carol_tool.specs.Texts.{
 use super::command::Command;
 use super::status::Status;
 use carol_history::{BadStatement, ScriptCause};
+use carol_meaning::NameKind;
 use carol_outer::ReadError;
 use carol_parse::TextLimit;
-use carol_resolve_meaning::NameKind;
 use carol_scenario::{SceneError, SceneLimit};
 use std::alloc::{AllocError, Global};
 use std::fmt;

@@ -11,12 +11,12 @@ use Rattle.carol_program.specs.declared.places.Place.{Place}
 use Rattle.carol_program.specs.Rules.{Rules, OpRules}
 use Rattle.carol_program.specs.WellFormed.{AreRules, IsOpOver}
 use Rattle.carol_reading.specs.Good.{IsGood}
-use Rattle.carol_obligation_sites.specs.Formed.{obligation_at}
-use Rattle.carol_obligation_sites.specs.Places.{obligations_from, obligations_of, sites_of}
-use Rattle.carol_obligation_good.proofs.Encoded.{safe-good}
-use Rattle.carol_obligation_good.proofs.Guarded.{good-safe}
-use Rattle.carol_obligation_truth.specs.Law.{IsExact}
-use Rattle.carol_obligation_truth.proofs.Exact.{formulas_are_exact}
+use Rattle.carol_obligation.specs.Formed.{obligation_at}
+use Rattle.carol_obligation.specs.Places.{obligations_from, obligations_of, sites_of}
+use Rattle.carol_obligation.proofs.Encoded.{safe-good}
+use Rattle.carol_obligation.proofs.Guarded.{good-safe}
+use Rattle.carol_obligation.specs.TruthLaw.{IsExact}
+use Rattle.carol_obligation.proofs.Exact.{formulas_are_exact}
 use Rattle.carol_decide.specs.declared.answer.Why.{Why}
 use Rattle.carol_typecheck.specs.declared.verdict.Verdict.{Verdict}
 use Rattle.carol_typecheck.specs.declared.verdict.Verdict.TheVariants.{Good, Fails, Undecided}

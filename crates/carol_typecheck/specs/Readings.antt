@@ -6,8 +6,8 @@ use Rattle.carol_formula.specs.Numbers.{number_at}
 use Rattle.carol_program.specs.declared.places.Place.{Place}
 use Rattle.carol_program.specs.Rules.{Rules}
 use Rattle.carol_reading.specs.Good.{IsGood}
-use Rattle.carol_obligation_sites.specs.Breaches.{IsBreach}
-use Rattle.carol_obligation_good.specs.Law.{HasNoBreach}
+use Rattle.carol_obligation.specs.Breaches.{IsBreach}
+use Rattle.carol_obligation.specs.GoodLaw.{HasNoBreach}
 use Rattle.carol_decide.specs.declared.answer.Why.{Why}
 use Rattle.carol_typecheck.specs.declared.verdict.Verdict.{Verdict}
 use Rattle.carol_typecheck.specs.declared.verdict.Verdict.TheVariants.{Good, Fails, Undecided}

@@ -2,8 +2,8 @@
 use Rattle.std.specs.Prelude.{ℕ, ◌+◌, List, [], ◌∷◌, ◌++◌, map}
 use Rattle.carol_program.specs.declared.places.Place.{Place}
 use Rattle.carol_program.specs.Rules.{Rules, OpRules}
-use Rattle.carol_obligation_sites.specs.Sites.{Site}
-use Rattle.carol_obligation_sites.specs.Places.{place_of, sites_of}
+use Rattle.carol_obligation.specs.Sites.{Site}
+use Rattle.carol_obligation.specs.Places.{place_of, sites_of}
 
 -- a site of an operation, which has this number
 pub record Spot : Type 0 where

@@ -5,6 +5,8 @@
 //! grows with the largest of them and not with their number. A batch with enough to do is shared
 //! out among threads, and the answers of its pieces are looked at in order. `specs/` says what a
 //! verdict means: `Formulas` of formulas alone, `Readings` of what the operations may do.
+//!
+//! Layer: checker. Called by `carol_accept`.
 #![tactic(auto)]
 
 mod batch;

@@ -1,6 +1,6 @@
 mod Stepping
 mod Dealing
 mod Going
-mod Entering
 mod Crossing
 mod Bounding
+mod Steps

@@ -1,5 +1,5 @@
 -- What a desk keeps of the answers to its steps.
-use Rattle.std.specs.Prelude.{ℕ, Option, Some, None, Result, Ok, Err}
+use Rattle.std.specs.Prelude.{◌≡◌, ◌⊎◌, ◌∙◌, inl, inr, refl, ℕ, Option, Some, None, Result, Ok, Err}
 use Rattle.carol_outer.specs.Faults.{one_more}
 use Rattle.carol_house.specs.declared.moved.Moved.{Moved}
 use Rattle.carol_house.specs.declared.moved.Moved.TheVariants as moved
@@ -35,3 +35,15 @@ noted session (Err error.Full) old = record {
   last = step_of session answer.Full;
 }
 noted session (Err error.NoMemory) old = old
+
+-- the last answer is that of before, or one to the session
+abbrev pub IsLastOf : Option Last → ℕ → Option Last → Type 0
+IsLastOf old session new = (new ≡ old) ⊎ ((given : Answer) × (new ≡ step_of session given))
+
+pub last_stays : (last : Option Last) (session : ℕ) → IsLastOf last session last
+last_stays last session = inl refl
+
+pub last_more : (old mid new : Option Last) (session : ℕ) → IsLastOf old session mid → IsLastOf mid session new → IsLastOf old session new
+last_more old mid new session (inl one) (inl more) = inl (more ∙ one)
+last_more old mid new session (inr one) (inl more) = inr (one.0, more ∙ one.1)
+last_more old mid new session one (inr more) = inr more

@@ -1,5 +1,6 @@
 -- What a step at a desk does to its house, whichever numbers it is asked for.
-use Rattle.std.specs.Prelude.{◌≡◌, ◌⊎◌, ◌≤◌, ◌<◌, ℕ, length, Result, Ok, Err}
+use Rattle.std.specs.Prelude.{◌≡◌, ◌≢◌, ◌⊎◌, ◌≤◌, ◌<◌, ◌∙◌, refl, ℕ, length, Result, Ok, Err}
+use Rattle.carol_history.specs.Acts.{acts}
 use Rattle.carol_history.specs.Legal.{MayLink}
 use Rattle.carol_house.specs.House.{House}
 use Rattle.carol_house.specs.Moves.{Advances, FailsToAdvance, Gossips, FailsToGossip}
@@ -32,3 +33,14 @@ abbrev pub GossipsIn : House → ℕ → ℕ → Result Gossip HouseError → Ho
 GossipsIn old source target given new =
     (MayLink old.scene source target × Passes old source target given new)
     ⊎ ((MayLink old.scene source target → ⊥) × (given ≡ Ok gossip.CutOff) × (new ≡ old))
+
+-- what the other sessions did is what they had done before
+abbrev pub OnlyActs : ℕ → House → House → Type 0
+OnlyActs session old new =
+    (other : ℕ) → other ≢ session → acts other new.history ≡ acts other old.history
+
+pub only_acts_none : (session : ℕ) (house : House) → OnlyActs session house house
+only_acts_none session house other apart = refl
+
+pub only_acts_more : (session : ℕ) (old mid new : House) → OnlyActs session old mid → OnlyActs session mid new → OnlyActs session old new
+only_acts_more session old mid new one more other apart = more other apart ∙ one other apart

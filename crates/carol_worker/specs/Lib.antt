@@ -5,3 +5,4 @@ pub mod Serving
 pub mod Hands
 pub mod Rosters
 pub mod Running
+pub mod Starts

@@ -1,5 +1,5 @@
 //! What is open at the end, one session after another.
-ghost use Rattle.std.specs.Prelude.{◌≡◌, ◌<◌, length, IfOk};
+ghost use Rattle.std.specs.Prelude.{◌<◌, length, IfOk, OnOk};
 ghost use Rattle.carol_worker.specs.Running.{Continues, HasEnded, IsThrough};
 
 use crate::serving::Served;
@@ -26,17 +26,17 @@ fn finish_session(house: &mut House, session: u32) -> Result<Served, AllocError>
 }
 
 /// Goes on until all commands are done or the history is full.
-pub(crate) fn finish(mut house: House) -> Result<House, AllocError>
-    ensures continues { IfOk result (Continues house) }
-    ensures ended { IfOk result HasEnded }
+pub(crate) fn finish(house: &mut House) -> Result<(), AllocError>
+    ensures continues { OnOk result (Continues house.old house.new) }
+    ensures ended { OnOk result (HasEnded house.new) }
 {
     history_laws();
     let sessions = house.scene().sessions.len() as u32;
     for session in 0..sessions {
-        match finish_session(&mut house, session)? {
+        match finish_session(house, session)? {
             Served::Done => {}
-            Served::Full => return Ok(house),
+            Served::Full => return Ok(()),
         }
     }
-    Ok(house)
+    Ok(())
 }

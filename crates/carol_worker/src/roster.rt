@@ -1,7 +1,7 @@
-ghost use Rattle.std.specs.Prelude.{◌≡◌, ◌<◌, ◌≤◌, ◌+◌, ◌++◌, [], ◌∷◌, All, IfOk, IfSome, IfNone, length};
+ghost use Rattle.std.specs.Prelude.{◌≡◌, ◌<◌, ◌≤◌, ◌+◌, true, All, IfOk, IfSome, IfNone, length};
 ghost use Rattle.crossbeam_queue.specs.Passes.{IsPassOf, ruled_capacity, view as hand_of};
-ghost use Rattle.carol_worker.specs.Hands.{maker, taker, times};
-ghost use Rattle.carol_worker.specs.Rosters.{IsNewOf, IsOf, WasEmpty};
+ghost use Rattle.carol_worker.specs.Hands.{maker, times};
+ghost use Rattle.carol_worker.specs.Rosters.{HasEnough, IsNewOf, IsOf, with_session};
 
 use crate::rule::{HandPass, Joins, Line, Puts, Takes};
 use std::alloc::{AllocError, Global};
@@ -24,8 +24,8 @@ impl Model for Roster {
     ghost view = { λ r. record { table = r.line.table.shared.table_id; count = r.count } };
 }
 
-/// The right to take sessions from a roster. Contracts see it as the queue of which it is, and the
-/// sessions that it took.
+/// The right to take sessions from a roster. Contracts see it as the queue of which it is, how many
+/// sessions were put in before it was made, whether it is the only one, and the sessions that it took.
 #[derive(Drop)]
 pub struct Taker {
     pass: HandPass,
@@ -34,11 +34,11 @@ pub struct Taker {
 impl Model for Taker {
     ghost use Rattle.std.specs.Prelude.{◌≡◌, []};
     ghost use Rattle.crossbeam_queue.specs.Passes.{view as hand_of};
-    ghost use Rattle.carol_worker.specs.Rosters.{Taker};
+    ghost use Rattle.carol_worker.specs.Rosters.{Taker, taker_of};
 
     ghost Value = { Taker };
 
-    ghost view = { λ t. record { table = t.pass.table_id; taken = (hand_of t.pass).taken } };
+    ghost view = { λ t. taker_of t.pass.table_id (hand_of t.pass) };
 
     ghost invariant = { λ t. t.pass.me.1 ≡ [] };
 }
@@ -59,8 +59,8 @@ fn put<R: Wait>(rt: &R, line: &Line, pass: &mut HandPass, session: u32)
 }
 
 impl Roster {
-    /// A roster of the sessions below `sessions`, with that many takers. There are 1 to 64 sessions
-    /// and 1 to 16 takers.
+    /// A roster in which the sessions below `sessions` were put, with that many takers. There are 1
+    /// to 64 sessions and 1 to 16 takers.
     pub fn new<R: Wait>(
         rt: &R,
         alloc: Global,
@@ -74,16 +74,20 @@ impl Roster {
         ensures count { IfOk result (λ made. made.0.count ≡ sessions) }
         ensures takers { IfOk result (λ made. length made.1.items ≡ takers) }
         ensures new { IfOk result (λ made. All (IsNewOf made.0) made.1.items) }
+        ensures alone { takers ≡ 1 → IfOk result (λ made.
+            All (λ taker. taker.alone ≡ true) made.1.items) }
     {
         let (line, mut pass) = Line::ruled(alloc, sessions as usize)?;
         for session in 0..sessions {
             put(rt, &line, &mut pass, session);
         }
         let mut list = Vec::new(alloc);
-        for _ in 0..takers {
+        for _taker in 1..takers {
             let pass = line.another::<Joins>(&mut pass);
             list.push(Taker { pass })?;
         }
+        // The maker's own pass is the last taker's.
+        list.push(Taker { pass })?;
         let roster = Roster {
             line,
             count: sessions,
@@ -99,14 +103,14 @@ impl Roster {
     }
 
     /// Takes a session, which the taker didn't have; no other taker gets it. None is answered only
-    /// where the roster was empty at a moment of the call. The taker is of this roster.
+    /// where the roster was empty at a moment of the call, so that an only taker took each session.
+    /// The taker is of this roster.
     pub fn take<R: Wait>(&self, rt: &R, taker: &mut Taker) -> Option<u32>
         requires { IsOf self.now taker.old }
         ensures roster { IsOf self.now taker.new }
         ensures some { IfSome result (λ session. (times session taker.old.taken ≡ 0)
-            × (taker.new.taken ≡ taker.old.taken ++ session ∷ [])) }
-        ensures none { IfNone result ((taker.new.taken ≡ taker.old.taken)
-            × WasEmpty taker.old.taken) }
+            × (taker.new ≡ with_session taker.old session)) }
+        ensures none { IfNone result ((taker.new ≡ taker.old) × HasEnough taker.old) }
     {
         self.line.pop_as::<Takes, R>(rt, &mut taker.pass)
     }

@@ -1,4 +1,4 @@
-ghost use Rattle.carol_worker.specs.Hands.{Dealt, IsOnceEach, IsShort, Put, Took, maker, taker};
+ghost use Rattle.carol_worker.specs.Hands.{Dealt, HasRest, IsShort, Put, Took, maker, taker, with_other};
 
 use crossbeam_queue::protocol::{Lesson, Outcome, Protocol, Split};
 use crossbeam_queue::{Pass, RuledArrayQueue};
@@ -8,13 +8,15 @@ use std::collections::LinkedList;
 pub(crate) struct Hand {
     /// Whether it puts the numbers in.
     pub(crate) makes: bool,
-    /// How many it then put in.
+    /// Whether there is no other pass.
+    pub(crate) alone: bool,
+    /// How many it put in, or were put in when it was made.
     pub(crate) count: u32,
     /// Which it took, in order.
     pub(crate) taken: LinkedList<u32>,
 }
 
-// The numbers from 0 are put in by one pass, and each goes to one pass at most.
+// The numbers from 0 are put in by one pass, and each goes to one pass.
 pub(crate) struct Deal;
 
 impl Protocol<u32, Hand> for Deal {
@@ -44,19 +46,18 @@ impl Outcome<u32, Hand> for Takes {
 }
 
 impl Lesson<u32, Hand> for Takes {
-    ghost fact = { IsOnceEach };
+    ghost fact = { HasRest };
 }
 
-// A pass that only takes is made beside one that stays as it is.
+// A pass that only takes is made beside another.
 pub(crate) struct Joins;
 
 impl Split<Hand> for Joins {
-    ghost use Rattle.std.specs.Prelude.{[]};
-    ghost use Rattle.carol_worker.specs.Hands.{taker};
+    ghost use Rattle.carol_worker.specs.Hands.{taker, with_other};
 
-    ghost left = { λ hand. hand };
+    ghost left = { with_other };
 
-    ghost right = { λ hand. taker [] };
+    ghost right = { λ hand. taker hand.count };
 }
 
 // The queue of the numbers that wait.

@@ -22,11 +22,13 @@ const MOST_STEPS: usize = MOST_EVENTS + 1;
 /// Steps the session at the desk until all its commands are done or the history is full, and passes
 /// the gate behind each step that entered an event. `Done` comes only where a step of this call
 /// found all commands done, `Full` only where one found the history full, or where more events were
-/// entered than a history has. After want of memory the desk keeps the steps that were made before.
+/// entered than a history has. No other session takes a step in it. After want of memory the desk
+/// keeps the steps that were made before.
 pub fn serve<D: Desk, G: Gate>(desk: &mut D, gate: &G, session: u32) -> Result<Served, AllocError>
     ensures counted { NoneFell (D.tally desk.old) (D.tally desk.new) }
     ensures served { IfOk result (λ how. IsServed (D.tally desk.old) session how
         (D.tally desk.new)) }
+    ensures only { D.only desk.old session desk.new }
     ensures kept { OnErr result (OnlyWent (D.tally desk.old) session (D.tally desk.new)) }
 {
     for _ in 0..MOST_STEPS {

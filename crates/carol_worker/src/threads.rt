@@ -3,9 +3,10 @@ ghost use Rattle.std.specs.Prelude.{◌≡◌, All};
 ghost use Rattle.carol_worker.specs.Rosters.{IsOf};
 
 use crate::desk::{Desk, LockedDesk};
+use crate::held::AtHouse;
 use crate::roster::{Roster, Taker, TakerList};
 use crate::serving::serve;
-use carol_house::{House, HouseError};
+use carol_house::HouseError;
 use carol_outer::Gate;
 use std::sync::atomic::{AtomicUsize, Ordering};
 use std::sync::{Mutex, Wait};
@@ -13,7 +14,13 @@ use std::thread;
 use std::thread::Threads;
 
 // Takes sessions from the roster and serves them, until none is left.
-fn work<R: Wait, G: Gate>(rt: &R, house: &Mutex<House>, roster: &Roster, mut taker: Taker, gate: &G)
+fn work<R: Wait, H: AtHouse, G: Gate>(
+    rt: &R,
+    house: &Mutex<H>,
+    roster: &Roster,
+    mut taker: Taker,
+    gate: &G,
+)
     requires { IsOf roster.now taker }
 {
     let mut desk = LockedDesk::new(rt, house);
@@ -39,7 +46,7 @@ fn gossip_round<D: Desk>(desk: &mut D, replicas: u32) -> bool {
 }
 
 // Passes entries on until no worker is at work any more or the history is full.
-fn spread<R: Wait>(rt: &R, house: &Mutex<House>, working: &AtomicUsize, replicas: u32) {
+fn spread<R: Wait, H: AtHouse>(rt: &R, house: &Mutex<H>, working: &AtomicUsize, replicas: u32) {
     let mut desk = LockedDesk::new(rt, house);
     for _ in rt.forever() {
         if working.load(Ordering::SeqCst) == 0 || !gossip_round(&mut desk, replicas) {
@@ -51,9 +58,9 @@ fn spread<R: Wait>(rt: &R, house: &Mutex<House>, working: &AtomicUsize, replicas
 
 /// Runs the sessions of the roster on the house, each taker in a thread, with as many threads more
 /// that gossip. What isn't done where a thread can't be started is left open.
-pub(crate) fn run_threads<R: Threads + Wait + Sync, G: Gate + Sync>(
+pub(crate) fn run_threads<R: Threads + Wait + Sync, H: AtHouse + Send, G: Gate + Sync>(
     rt: &R,
-    house: &Mutex<House>,
+    house: &Mutex<H>,
     roster: &Roster,
     takers: TakerList,
     gate: &G,

@@ -1,9 +1,9 @@
 use Rattle.std.proofs.Common.{◌≡◌, ◌+◌, ◌≤◌, ◌^◌, ℕ, List, length, sym, subst, ap, ◌∙◌, arith}
 use Rattle.std.specs.Prelude.{ℤ, unsigned_abs}
 use Rattle.std.specs.List.{All}
-use Rattle.carol_cert_rows.specs.Steps.{Closes}
-use Rattle.carol_difference_paths.specs.declared.Edge.{Edge}
-use Rattle.carol_difference_paths.specs.Graph.{IsAnswer, IsNegativeCycle, IsPotential, CannotBeMet}
+use Rattle.carol_cert.specs.Steps.{Closes}
+use Rattle.carol_difference.specs.declared.paths.Edge.{Edge}
+use Rattle.carol_difference.specs.Edges.{IsAnswer, IsNegativeCycle, IsPotential, CannotBeMet}
 use Rattle.carol_difference.specs.Rows.{claims_of}
 use Rattle.carol_difference.specs.Evidence.{AreApart, GivesNumbers, sum_steps}
 use Rattle.carol_difference.proofs.Table.{table_apart}

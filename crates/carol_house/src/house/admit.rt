@@ -77,7 +77,7 @@ impl House {
         if session as usize >= self.scene.sessions.len() {
             return None;
         }
-        let Some(forced) = self.forced(session) else {
+        let Some(forced) = self.next(session) else {
             return None;
         };
         let _valid = self.scene();

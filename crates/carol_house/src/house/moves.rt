@@ -25,7 +25,7 @@ impl House {
         ensures err { IfErr result (λ error. FailsToAdvance self.old session error self.new) }
     {
         history_laws();
-        let Some(event) = self.forced(session) else {
+        let Some(event) = self.next(session) else {
             return Ok(Moved::Finished);
         };
         let _valid = self.scene();
@@ -45,15 +45,15 @@ impl House {
         ensures ok { IfOk result (λ gossip. Gossips self.old from to gossip self.new) }
         ensures err { IfErr result (λ error. FailsToGossip self.old from to error self.new) }
     {
-        if !self.linked(from, to) {
-            return Ok(Gossip::CutOff);
+        match self.offer(from, to) {
+            Gossip::Delivered(entry) => {
+                self.make_way()?;
+                self.deliver(from, to, entry);
+                Ok(Gossip::Delivered(entry))
+            }
+            Gossip::NothingNew => Ok(Gossip::NothingNew),
+            Gossip::CutOff => Ok(Gossip::CutOff),
         }
-        let Some(entry) = self.missing(from, to) else {
-            return Ok(Gossip::NothingNew);
-        };
-        self.make_way()?;
-        self.deliver(from, to, entry);
-        Ok(Gossip::Delivered(entry))
     }
 
     /// Joins two different replicas of the scene, or cuts them off from each other where `up` is

@@ -3,11 +3,13 @@ ghost use Rattle.std.specs.List.{AllByRecursion};
 ghost use Rattle.carol_store.specs.Effects.{IsEffect};
 ghost use Rattle.carol_history.specs.Forced.{Forced};
 ghost use Rattle.carol_history.specs.Journals.{is_held};
+ghost use Rattle.carol_history.specs.Legal.{MayLink};
 ghost use Rattle.carol_history.specs.Links.{is_linked};
 ghost use Rattle.carol_machine.specs.declared.wish.Wish.TheVariants as wish;
 ghost use Rattle.carol_house.specs.Nexts.{IsFirstUnsettled, is_settled};
 
 use crate::house::House;
+use crate::moved::Gossip;
 use crate::tables::Tables;
 use carol_event::{Cause, Event};
 use carol_history::history_laws;
@@ -19,12 +21,13 @@ use carol_store::{AtomList, Effect};
 /// What is to come next.
 impl House {
     ghost use Rattle.carol_house.specs.House.{rules_of};
+    ghost use Rattle.carol_house.specs.Moves.{Offers};
     ghost use Rattle.carol_house.specs.Nexts.{GoesOnWith, IsBarred, IsFirstOutside, IsForced, IsHolder};
     ghost use Rattle.carol_house.specs.Nexts.{IsHome, IsMissing, Wishes};
 
-    /// The event that the session, which is in range, is to go on with. `None` exactly where no
-    /// command is under way.
-    pub(crate) fn forced(&mut self, session: u32) -> Option<Event>
+    /// The event that the session, which is in range, is to go on with: its own, or the delivery of
+    /// the lowest entry that it waits for. `None` exactly where all its commands are done.
+    pub fn next(&mut self, session: u32) -> Option<Event>
         requires { session < length self.old.scene.sessions }
         ensures forced { IsForced (rules_of self.old) self.old.scene session result
             self.old.history }
@@ -171,8 +174,24 @@ impl House {
         self.linked(source, target) && self.tables.holding.has(source, entry)
     }
 
-    /// Whether the two replicas, which are in range, are linked.
-    pub(crate) fn linked(&self, one: u32, other: u32) -> bool
+    /// What `gossip` comes to between the two, which are different replicas of the scene, where
+    /// there is room: the delivery of the lowest entry that the replica `from` holds and `to`
+    /// lacks, or why there is none.
+    pub fn offer(&self, from: u32, to: u32) -> Gossip
+        requires { MayLink self.now.scene from to }
+        ensures { Offers self.now from to result }
+    {
+        if !self.linked(from, to) {
+            return Gossip::CutOff;
+        }
+        match self.missing(from, to) {
+            Some(entry) => Gossip::Delivered(entry),
+            None => Gossip::NothingNew,
+        }
+    }
+
+    // Whether the two replicas, which are in range, are linked.
+    fn linked(&self, one: u32, other: u32) -> bool
         requires one { one < self.now.scene.replicas }
         requires other { other < self.now.scene.replicas }
         ensures { result ≡ is_linked one other self.now.history }
@@ -180,8 +199,8 @@ impl House {
         one != other && self.tables.links.joined(one, other)
     }
 
-    /// The lowest entry that the one replica holds and the other lacks. Both are in range.
-    pub(crate) fn missing(&self, from: u32, to: u32) -> Option<u32>
+    // The lowest entry that the one replica holds and the other lacks. Both are in range.
+    fn missing(&self, from: u32, to: u32) -> Option<u32>
         requires from { from < self.now.scene.replicas }
         requires to { to < self.now.scene.replicas }
         ensures { IsMissing self.now.scene from to result self.now.history }

@@ -3,10 +3,10 @@ use Rattle.std.proofs.lemmas.Result.{IfOk-weaker}
 use Rattle.std.proofs.lemmas.List.{length-map}
 use Rattle.carol_formula.specs.Claim.{Claim, Le}
 use Rattle.carol_formula.specs.declared.term.Row.{Row}
-use Rattle.carol_cert_rows.specs.declared.step.RowStep.{RowStep}
-use Rattle.carol_linear_stage.specs.Due.{rows_at, AreRows}
-use Rattle.carol_linear_leaf.specs.Names.{AreNamed}
-use Rattle.carol_linear_arena.specs.Entries.{terms_of}
+use Rattle.carol_cert.specs.declared.step.RowStep.{RowStep}
+use Rattle.carol_elimination.specs.Due.{rows_at, AreRows}
+use Rattle.carol_linear.specs.Names.{AreNamed}
+use Rattle.carol_elimination.specs.Entries.{terms_of}
 use Rattle.carol_linear.specs.Answer.{IsAnswer}
 use Rattle.carol_linear.specs.declared.answer.RowsAnswer.{RowsAnswer}
 use Rattle.carol_linear.proofs.Places.{shows_own}

@@ -1,5 +1,5 @@
 use Rattle.std.proofs.Common.{◌≡◌, take}
-use Rattle.carol_linear_arena.specs.Entries.{terms_of}
+use Rattle.carol_elimination.specs.Entries.{terms_of}
 use Rattle.carol_linear.specs.Place.{names_from}
 use Rattle.carol_linear.proofs.own_names.Given as goal
 

@@ -1,4 +1,4 @@
-use Rattle.carol_linear_arena.specs.Entries.{terms_of}
+use Rattle.carol_elimination.specs.Entries.{terms_of}
 use Rattle.carol_linear.specs.State.{IsAt, rank_of}
 use Rattle.carol_linear.proofs.search.Given as goal
 

@@ -1,6 +1,6 @@
 use Rattle.std.proofs.Common.{[], IfOk}
 use Rattle.carol_program.specs.Rules.{rules_in}
-use Rattle.carol_obligation_sites.specs.Places.{obligations_of}
+use Rattle.carol_obligation.specs.Places.{obligations_of}
 use Rattle.carol_typecheck.specs.Formulas.{IsVerdictOn}
 use Rattle.carol_typecheck.specs.Readings.{IsVerdictFor}
 use Rattle.carol_typecheck.proofs.Meaning.{verdict_for, fails_where_bad}

@@ -7,5 +7,5 @@ use Rattle.carol_accept.proofs.check.starts_well.Goals as goal
 
 pub holds-requires : goal.holds-requires
 holds-requires c =
-    claim_fits (invariant_variables (length c.args.program.now.shape)) (claim_of c.args.program.now.invariant) (number_in c.args.program.now.initial) c.requires.invariant.terms
+    claim_fits (invariant_variables c.args.program.now.shape) (claim_of c.args.program.now.invariant) (number_in c.args.program.now.initial) c.requires.invariant.terms
     (near_store c.args.program.now.initial c.values-words.ensures.words)

@@ -7,4 +7,4 @@ use Rattle.carol_accord.proofs.Light.{nameable, equal_named}
 use Rattle.carol_accord.proofs.formulas.equal_formula.Goals as goal
 
 pub renamed-requires : goal.renamed-requires
-renamed-requires c = nameable (λ v. ⊤) equal_name (guard_variables (length c.args.kinds.now)) equal_named (claim_of c.args.guard.now) c.requires.over.terms
+renamed-requires c = nameable (λ v. ⊤) equal_name (guard_variables c.args.kinds.now) equal_named (claim_of c.args.guard.now) c.requires.over.terms

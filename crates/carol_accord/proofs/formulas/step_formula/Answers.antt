@@ -6,4 +6,4 @@ use Rattle.carol_accord.proofs.Light.{nameable, step_named}
 use Rattle.carol_accord.proofs.formulas.step_formula.Goals as goal
 
 pub renamed-requires : goal.renamed-requires
-renamed-requires c = nameable (λ v. c.args.direction.cell < 16) (step_name c.args.kind c.args.direction) (guard_variables (length c.args.kinds.now)) (step_named c.args.kind c.args.direction c.requires.cell) (claim_of c.args.guard.now) c.requires.guard.over.terms
+renamed-requires c = nameable (λ v. c.args.direction.cell < 16) (step_name c.args.kind c.args.direction) (guard_variables c.args.kinds.now) (step_named c.args.kind c.args.direction c.requires.cell) (claim_of c.args.guard.now) c.requires.guard.over.terms

@@ -3,7 +3,7 @@ use Rattle.std.specs.Prelude.{FitsSigned, pos, ◌+ℤ◌}
 use Rattle.std.specs.Int.{w128}
 use Rattle.std.proofs.lemmas.Int.{to_z-of_z}
 use Rattle.carol_formula.specs.Bounds.{IsBelow, value_limit}
-use Rattle.carol_cert_rows.specs.Place.{claims_at}
+use Rattle.carol_cert.specs.Place.{claims_at}
 use Rattle.carol_cert.specs.Proof.{Branch, proof_of}
 use Rattle.carol_cert.specs.Counts.{GoesRight}
 use Rattle.carol_cert.specs.Left.{claims_below, waiting}

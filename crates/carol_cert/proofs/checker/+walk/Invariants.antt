@@ -1,5 +1,5 @@
 use Rattle.std.proofs.Common.{◌+◌, ◌*◌, ◌∷◌}
-use Rattle.carol_cert_rows.specs.Place.{claims_at}
+use Rattle.carol_cert.specs.Place.{claims_at}
 use Rattle.carol_cert.specs.Proof.{Branch, proof_of}
 use Rattle.carol_cert.specs.Left.{claims_below, waiting}
 use Rattle.carol_cert.specs.Block.{held, IsBlock}

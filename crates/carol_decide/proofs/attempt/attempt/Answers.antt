@@ -2,8 +2,8 @@ use Rattle.std.proofs.Common.{subst, map}
 use Rattle.carol_formula.specs.Numbers.{number_at}
 use Rattle.carol_formula.specs.Tree.{claim_of}
 use Rattle.carol_formula.specs.Claim.{Le}
-use Rattle.carol_cert_rows.specs.Steps.{Closes}
-use Rattle.carol_linear_arena.specs.Entries.{terms_of}
+use Rattle.carol_cert.specs.Steps.{Closes}
+use Rattle.carol_elimination.specs.Entries.{terms_of}
 use Rattle.carol_decide.specs.Piece.{claims_in}
 use Rattle.carol_decide.specs.Table.{IsTried}
 use Rattle.carol_decide.proofs.Meeting.{makes_from}

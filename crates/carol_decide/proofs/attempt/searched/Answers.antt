@@ -3,7 +3,7 @@ use Rattle.std.proofs.lemmas.List.{length-map}
 use Rattle.carol_formula.specs.Numbers.{number_at}
 use Rattle.carol_cert.specs.Proof.{proof_of}
 use Rattle.carol_linear.specs.Answer.{IsAnswer}
-use Rattle.carol_linear_arena.specs.Entries.{terms_of}
+use Rattle.carol_elimination.specs.Entries.{terms_of}
 use Rattle.carol_decide.specs.Piece.{claim_of_piece, claims_in}
 use Rattle.carol_decide.proofs.Settling.{model_makes, search_closes, spent_here, wide_case, far_case, found_by_search}
 use Rattle.carol_decide.proofs.attempt.searched.Goals as goal

@@ -1,5 +1,5 @@
 use Rattle.std.proofs.Common.{[], ◌∷◌, subst}
-use Rattle.carol_linear_stage.specs.Due.{AreRows}
+use Rattle.carol_elimination.specs.Due.{AreRows}
 use Rattle.carol_decide.specs.Sizes.{IsReady}
 use Rattle.carol_decide.specs.Piece.{claim_of_piece}
 use Rattle.carol_decide.proofs.Looking.{look_more, stands_piece}

@@ -1,7 +1,7 @@
 use Rattle.std.proofs.Common.{ap, ◌∙◌, Err}
 use Rattle.carol_formula.specs.Linear.{difference_of}
 use Rattle.carol_formula.specs.Claim.{Le}
-use Rattle.carol_cert_rows.specs.Cases.{above_zero}
+use Rattle.carol_cert.specs.Cases.{above_zero}
 use Rattle.carol_decide.proofs.Filling.{above_made, ready_fits}
 use Rattle.carol_decide.proofs.table.above.Goals as goal
 

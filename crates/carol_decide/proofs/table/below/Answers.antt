@@ -1,7 +1,7 @@
 use Rattle.std.proofs.Common.{ap, ◌∙◌, Err}
 use Rattle.carol_formula.specs.Linear.{sum_of}
 use Rattle.carol_formula.specs.Claim.{Le}
-use Rattle.carol_cert_rows.specs.Cases.{below_zero}
+use Rattle.carol_cert.specs.Cases.{below_zero}
 use Rattle.carol_decide.proofs.Filling.{below_made, ready_fits}
 use Rattle.carol_decide.proofs.table.below.Goals as goal
 

@@ -1,7 +1,7 @@
 use Rattle.std.proofs.Common.{◌≡◌, ◌++◌, [], ◌∷◌, length, subst, arith}
 use Rattle.std.proofs.lemmas.List.{length-map}
-use Rattle.carol_linear_stage.specs.Due.{rows_at}
-use Rattle.carol_linear_arena.specs.Entries.{terms_of}
+use Rattle.carol_elimination.specs.Due.{rows_at}
+use Rattle.carol_elimination.specs.Entries.{terms_of}
 use Rattle.carol_decide.specs.Sizes.{IsReady, OfDifferences}
 use Rattle.carol_decide.specs.Piece.{claim_of_piece, claims_in}
 use Rattle.carol_decide.specs.Table.{own_names}

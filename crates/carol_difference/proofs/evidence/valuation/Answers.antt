@@ -1,7 +1,7 @@
 use Rattle.std.proofs.Common.{◌+◌, ◌<◌, ◌≤◌, ◌^◌, length, get_or, sym, subst, arith}
 use Rattle.std.specs.Prelude.{ℤ, pos, unsigned_abs}
 use Rattle.std.proofs.lemmas.Option.{slice_get-get_or}
-use Rattle.carol_difference_paths.specs.Graph.{value_in}
+use Rattle.carol_difference.specs.Edges.{value_in}
 use Rattle.carol_difference.proofs.Models.{GivesNumbers-set, difference_is, difference_near}
 use Rattle.carol_difference.proofs.evidence.valuation.Goals as goal
 

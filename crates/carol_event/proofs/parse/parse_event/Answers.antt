@@ -1,4 +1,5 @@
 use Rattle.carol_event.proofs.Near.{bad_near}
+use Rattle.carol_event.proofs.Places.{bad_place}
 use Rattle.carol_event.proofs.RoundTrip.{event_take, no_event, same_event}
 use Rattle.carol_event.proofs.parse.parse_event.Goals as goal
 
@@ -16,3 +17,6 @@ returns-in-Ok-clause-only c = λ event fits is. same_event c.args.line.now c.in-
 
 pub returns-in-Err-clause-only : goal.returns-in-Err-clause-only
 returns-in-Err-clause-only c = λ event fits is. no_event c.args.line.now c.in-Err.bad.left event fits is c.in-Err.ensures
+
+pub returns-in-Err-clause-bad : goal.returns-in-Err-clause-bad
+returns-in-Err-clause-bad c = bad_place c.args.line.now c.in-Err.bad.left c.column.result c.in-Err.ensures c.column.ensures

@@ -2,7 +2,7 @@ use Rattle.std.proofs.Common.{List, [], ◌∷◌, ◌++◌, take, sym, ◌∙�
 use Rattle.std.proofs.lemmas.List.{map_push}
 use Rattle.carol_formula.specs.Linear.{Linear}
 use Rattle.carol_formula.specs.declared.term.Row.{Row}
-use Rattle.carol_linear_arena.specs.Entries.{terms_of}
+use Rattle.carol_elimination.specs.Entries.{terms_of}
 use Rattle.carol_linear.specs.Path.{frame_rows}
 use Rattle.carol_linear.proofs.Paths.{frame_rows-take}
 use Rattle.carol_linear.proofs.state.branch_rows.Goals as goal

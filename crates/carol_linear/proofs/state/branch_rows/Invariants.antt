@@ -1,5 +1,5 @@
 use Rattle.std.proofs.Common.{◌≡◌, take}
-use Rattle.carol_linear_arena.specs.Entries.{terms_of}
+use Rattle.carol_elimination.specs.Entries.{terms_of}
 use Rattle.carol_linear.specs.Path.{frame_rows}
 use Rattle.carol_linear.proofs.state.branch_rows.Given as goal
 

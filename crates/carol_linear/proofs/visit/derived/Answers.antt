@@ -1,5 +1,5 @@
 use Rattle.std.proofs.Common.{◌∙◌}
-use Rattle.carol_linear_values.proofs.Reaching.{derived_at}
+use Rattle.carol_elimination.proofs.Reaching.{derived_at}
 use Rattle.carol_linear.proofs.visit.derived.Goals as goal
 
 pub returns-clause-derived : goal.returns-clause-derived

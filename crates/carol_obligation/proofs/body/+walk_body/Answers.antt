@@ -8,7 +8,7 @@ use Rattle.carol_obligation.specs.Collected.{behind_test, collected}
 use Rattle.carol_obligation.specs.Passing.{Passes}
 use Rattle.carol_obligation.specs.Ready.{point_of, IsReady}
 use Rattle.carol_obligation.proofs.Loops.{left_query, left_issue, left_release, left_branch, left_return}
-use Rattle.carol_obligation.proofs.Parts.{small_parts}
+use Rattle.carol_obligation.proofs.PartTerms.{small_parts}
 use Rattle.carol_obligation.proofs.Steps.{ready_room, ready_first}
 use Rattle.carol_obligation.proofs.body.+walk_body.Goals as goal
 

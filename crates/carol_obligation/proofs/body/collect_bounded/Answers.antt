@@ -1,7 +1,7 @@
 use Rattle.std.proofs.Common.{length, subst, sym}
 use Rattle.carol_formula.specs.Tree.{claim_of}
 use Rattle.carol_program.specs.Rules.{rules_in, op_rules}
-use Rattle.carol_obligation_sites.specs.Sites.{Amount}
+use Rattle.carol_obligation.specs.Sites.{Amount}
 use Rattle.carol_obligation.specs.Budget.{IsDecidable}
 use Rattle.carol_obligation.proofs.Gathering.{passed_as}
 use Rattle.carol_obligation.proofs.Sizes.{owed_decidable}

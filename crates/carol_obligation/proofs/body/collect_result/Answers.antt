@@ -3,7 +3,7 @@ use Rattle.carol_formula.specs.Tree.{claim_of}
 use Rattle.carol_program.specs.Bodies.{Return}
 use Rattle.carol_program.specs.Rules.{rules_in, op_rules}
 use Rattle.carol_program.specs.WellFormed.{setting_of, variables_in}
-use Rattle.carol_obligation_sites.specs.Sites.{Gives}
+use Rattle.carol_obligation.specs.Sites.{Gives}
 use Rattle.carol_obligation.specs.Budget.{IsDecidable}
 use Rattle.carol_obligation.specs.Ready.{point_at}
 use Rattle.carol_obligation.proofs.Light.{light_term}

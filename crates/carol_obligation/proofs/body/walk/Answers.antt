@@ -4,7 +4,7 @@ use Rattle.carol_formula.specs.declared.formula.Formula.{the_lemmas}
 use Rattle.carol_formula.specs.Claim.{True}
 use Rattle.carol_formula.specs.Tree.{claim_of}
 use Rattle.carol_program.specs.Rules.{rules_in, op_rules}
-use Rattle.carol_obligation_sites.specs.Formed.{with_all}
+use Rattle.carol_obligation.specs.Formed.{with_all}
 use Rattle.carol_obligation.proofs.Places.{whole_owed}
 use Rattle.carol_obligation.proofs.Steps.{ready_start}
 use Rattle.carol_obligation.proofs.body.walk.Goals as goal

@@ -1,7 +1,7 @@
 use Rattle.std.proofs.Common.{◌≡◌, length}
 use Rattle.std.specs.Prelude.{map}
 use Rattle.carol_formula.specs.Tree.{claim_of}
-use Rattle.carol_obligation_sites.specs.Formed.{with_all}
+use Rattle.carol_obligation.specs.Formed.{with_all}
 use Rattle.carol_obligation.proofs.known.with_all.Given as goal
 
 abbrev pub invariant-loop-formula : goal.invariant-loop-formula

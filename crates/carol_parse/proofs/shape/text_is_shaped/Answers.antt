@@ -1,4 +1,4 @@
-use Rattle.carol_syntax_meaning.specs.Outcome.{tail_of}
+use Rattle.carol_grammar.specs.Outcome.{tail_of}
 use Rattle.carol_parse.proofs.Spelled.{all_spelled}
 use Rattle.carol_parse.proofs.Files.{file_shaped}
 use Rattle.carol_parse.proofs.shape.text_is_shaped.Goals as goal

@@ -1,6 +1,6 @@
 use Rattle.std.proofs.Common.{◌≡◌, ◌++◌, drop}
-use Rattle.carol_print_canon.specs.Pieces.{text_of}
-use Rattle.carol_print_canon.specs.Canonical.{fields}
+use Rattle.carol_print.specs.Pieces.{text_of}
+use Rattle.carol_print.specs.Canonical.{fields}
 use Rattle.carol_print.proofs.cells.push_fields.Given as goal
 
 abbrev pub invariant-loop-field : goal.invariant-loop-field

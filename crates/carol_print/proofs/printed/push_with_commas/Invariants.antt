@@ -1,6 +1,6 @@
 use Rattle.std.proofs.Common.{◌≡◌, ◌++◌, map, drop}
-use Rattle.carol_print_canon.specs.Pieces.{text_of}
-use Rattle.carol_print_canon.specs.Canonical.{after_commas, with_commas}
+use Rattle.carol_print.specs.Pieces.{text_of}
+use Rattle.carol_print.specs.Canonical.{after_commas, with_commas}
 use Rattle.carol_print.proofs.printed.push_with_commas.Given as goal
 
 abbrev pub invariant-loop-item : goal.invariant-loop-item

@@ -1,5 +1,5 @@
 use Rattle.carol_syntax.specs.Files.{program_tree, guard_tree, op_tree}
-use Rattle.carol_print_canon.specs.Canonical.{guard, op}
+use Rattle.carol_print.specs.Canonical.{guard, op}
 use Rattle.carol_print.proofs.Texts.{map_twice}
 use Rattle.carol_print.proofs.Parts.{program_text}
 use Rattle.carol_print.proofs.programs.push_program.Goals as goal

@@ -1,6 +1,6 @@
 use Rattle.std.proofs.Common.{◌≡◌, ◌++◌, drop}
-use Rattle.carol_print_canon.specs.Pieces.{text_of}
-use Rattle.carol_print_canon.specs.Canonical.{after_dots, path}
+use Rattle.carol_print.specs.Pieces.{text_of}
+use Rattle.carol_print.specs.Canonical.{after_dots, path}
 use Rattle.carol_print.proofs.terms.push_path.Given as goal
 
 abbrev pub invariant-loop-part : goal.invariant-loop-part

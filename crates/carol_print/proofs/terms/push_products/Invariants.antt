@@ -1,6 +1,6 @@
 use Rattle.std.proofs.Common.{◌≡◌, ◌++◌, drop}
-use Rattle.carol_print_canon.specs.Pieces.{text_of}
-use Rattle.carol_print_canon.specs.Canonical.{more_products, sum_of}
+use Rattle.carol_print.specs.Pieces.{text_of}
+use Rattle.carol_print.specs.Canonical.{more_products, sum_of}
 use Rattle.carol_print.proofs.terms.push_products.Given as goal
 
 abbrev pub invariant-loop-product : goal.invariant-loop-product

@@ -1,7 +1,7 @@
 use Rattle.std.proofs.Common.{◌≡◌, sym, subst, rules}
 use Rattle.carol_syntax.specs.Files.{file_tree}
-use Rattle.carol_print_canon.specs.Pieces.{text_of}
-use Rattle.carol_print_canon.specs.Canonical.{canonical}
+use Rattle.carol_print.specs.Pieces.{text_of}
+use Rattle.carol_print.specs.Canonical.{canonical}
 use Rattle.carol_print.specs.ReadBack.{IsTextOf, IsReadBack}
 use Rattle.carol_print.proofs.Back.{text_is_file, text_is_read_back}
 use Rattle.carol_print.proofs.whole.print.Goals as goal

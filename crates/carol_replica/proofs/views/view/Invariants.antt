@@ -2,10 +2,10 @@ use Rattle.std.proofs.Common.{◌≡◌, ◌+◌, ◌≤◌, length}
 use Rattle.std.specs.List.{AllByRecursion}
 use Rattle.carol_store.specs.Actions.{chosen_from}
 use Rattle.carol_store.specs.Effects.{IsEffect}
-use Rattle.carol_store.specs.Stores.{IsStore, apply_all}
+use Rattle.carol_store.specs.Stores.{IsStore, apply_all, StayInWords}
 use Rattle.carol_holding.specs.declared.row.TheConstants.{MOST_ENTRIES}
 use Rattle.carol_holding.specs.Held.{holds}
-use Rattle.carol_replica.specs.Entries.{StayInWords, held_entries}
+use Rattle.carol_replica.specs.Entries.{held_entries}
 use Rattle.carol_replica.proofs.views.view.Given as goal
 
 abbrev pub invariant-loop-effect : goal.invariant-loop-effect

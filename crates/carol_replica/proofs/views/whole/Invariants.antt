@@ -1,8 +1,7 @@
 use Rattle.std.proofs.Common.{◌≡◌, length}
 use Rattle.std.specs.List.{AllByRecursion}
 use Rattle.carol_store.specs.Effects.{IsEffect}
-use Rattle.carol_store.specs.Stores.{IsStore, apply_all}
-use Rattle.carol_replica.specs.Entries.{StayInWords}
+use Rattle.carol_store.specs.Stores.{IsStore, apply_all, StayInWords}
 use Rattle.carol_replica.proofs.views.whole.Given as goal
 
 abbrev pub invariant-loop-effect : goal.invariant-loop-effect

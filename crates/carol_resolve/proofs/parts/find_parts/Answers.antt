@@ -1,11 +1,11 @@
 use Rattle.std.proofs.Common.{ap, map, ◌∙◌}
 use Rattle.carol_syntax.specs.Files.{op_tree}
 use Rattle.carol_syntax.specs.Formulas.{formula_tree}
-use Rattle.carol_resolve_meaning.specs.Faults.{earliest}
-use Rattle.carol_resolve_meaning.specs.Terms.{formula_faults}
-use Rattle.carol_resolve_meaning.specs.Stores.{in_invariant}
-use Rattle.carol_resolve_meaning.specs.Operations.{op_meaning}
-use Rattle.carol_resolve_meaning.specs.Programs.{around}
+use Rattle.carol_meaning.specs.Faults.{earliest}
+use Rattle.carol_meaning.specs.Terms.{formula_faults}
+use Rattle.carol_meaning.specs.Stores.{in_invariant}
+use Rattle.carol_meaning.specs.Operations.{op_meaning}
+use Rattle.carol_meaning.specs.Programs.{around}
 use Rattle.carol_syntax.specs.Files.{program_tree}
 use Rattle.carol_resolve.proofs.Program.{around-is, all-noted}
 use Rattle.carol_resolve.proofs.parts.find_parts.Goals as goal

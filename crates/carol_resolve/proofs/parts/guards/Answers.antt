@@ -3,10 +3,10 @@ use Rattle.carol_program.specs.Rules.{guard_claim}
 use Rattle.carol_syntax.specs.Shape.{IsNamed}
 use Rattle.carol_syntax.specs.Size.{IsSizedNamed}
 use Rattle.carol_syntax.specs.Files.{guard_tree}
-use Rattle.carol_resolve_meaning.specs.Terms.{formula_meaning, formula_faults}
-use Rattle.carol_resolve_meaning.specs.Stores.{in_guard}
-use Rattle.carol_resolve_operations.proofs.Params.{tree_at, here_and_on}
-use Rattle.carol_resolve.proofs.Listed.{faults-on, views-on}
+use Rattle.carol_meaning.specs.Terms.{formula_meaning, formula_faults}
+use Rattle.carol_meaning.specs.Stores.{in_guard}
+use Rattle.carol_resolve.proofs.Params.{tree_at, here_and_on}
+use Rattle.carol_resolve.proofs.ListedLaws.{faults-on, views-on}
 use Rattle.carol_resolve.proofs.parts.guards.Goals as goal
 
 pub loop-declaration-preserved : goal.loop-declaration-preserved

@@ -4,9 +4,9 @@ use Rattle.carol_program.specs.Rules.{guard_claim}
 use Rattle.carol_syntax.specs.Files.{guard_tree}
 use Rattle.carol_syntax.specs.Shape.{IsNamed}
 use Rattle.carol_syntax.specs.Size.{IsSizedNamed}
-use Rattle.carol_resolve_meaning.specs.Faults.{earliest}
-use Rattle.carol_resolve_meaning.specs.Terms.{formula_meaning, formula_faults}
-use Rattle.carol_resolve_meaning.specs.Stores.{in_guard}
+use Rattle.carol_meaning.specs.Faults.{earliest}
+use Rattle.carol_meaning.specs.Terms.{formula_meaning, formula_faults}
+use Rattle.carol_meaning.specs.Stores.{in_guard}
 use Rattle.carol_resolve.proofs.parts.guards.Given as goal
 
 abbrev pub invariant-loop-declaration : goal.invariant-loop-declaration

@@ -3,9 +3,9 @@ use Rattle.carol_program.specs.Rules.{op_rules}
 use Rattle.carol_syntax.specs.Shape.{IsOp}
 use Rattle.carol_syntax.specs.Size.{IsSizedOp}
 use Rattle.carol_syntax.specs.Files.{op_tree}
-use Rattle.carol_resolve_meaning.specs.Operations.{op_faults, op_meaning, op_names}
-use Rattle.carol_resolve_operations.proofs.Params.{tree_at, here_and_on}
-use Rattle.carol_resolve.proofs.Listed.{faults-on, items-on, views-on}
+use Rattle.carol_meaning.specs.Operations.{op_faults, op_meaning, op_names}
+use Rattle.carol_resolve.proofs.Params.{tree_at, here_and_on}
+use Rattle.carol_resolve.proofs.ListedLaws.{faults-on, items-on, views-on}
 use Rattle.carol_resolve.proofs.parts.operations.Goals as goal
 
 pub loop-op-preserved : goal.loop-op-preserved

@@ -4,8 +4,8 @@ use Rattle.carol_program.specs.Rules.{op_rules}
 use Rattle.carol_syntax.specs.Files.{op_tree}
 use Rattle.carol_syntax.specs.Shape.{IsOp}
 use Rattle.carol_syntax.specs.Size.{IsSizedOp}
-use Rattle.carol_resolve_meaning.specs.Faults.{earliest}
-use Rattle.carol_resolve_meaning.specs.Operations.{op_faults, op_meaning, op_names}
+use Rattle.carol_meaning.specs.Faults.{earliest}
+use Rattle.carol_meaning.specs.Operations.{op_faults, op_meaning, op_names}
 use Rattle.carol_resolve.proofs.parts.operations.Given as goal
 
 abbrev pub invariant-loop-op : goal.invariant-loop-op

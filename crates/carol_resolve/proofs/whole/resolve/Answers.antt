@@ -1,6 +1,6 @@
 use Rattle.carol_syntax.specs.Files.{program_tree}
-use Rattle.carol_resolve_meaning.specs.Programs.{program_faults, rules_of, names_of}
-use Rattle.carol_resolve_laws.proofs.Programs.{faultless_is_well_formed}
+use Rattle.carol_meaning.specs.Programs.{program_faults, rules_of, names_of}
+use Rattle.carol_meaning.proofs.Programs.{faultless_is_well_formed}
 use Rattle.carol_resolve.proofs.Program.{told-first, told-none, cells-faultless, well-formed-as}
 use Rattle.carol_resolve.proofs.whole.resolve.Goals as goal
 

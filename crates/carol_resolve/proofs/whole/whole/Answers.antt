@@ -1,4 +1,4 @@
-use Rattle.carol_resolve_cells.proofs.Counts.{few-cells}
+use Rattle.carol_names.proofs.Counts.{few-cells}
 use Rattle.carol_resolve.proofs.Program.{all-called}
 use Rattle.carol_resolve.proofs.whole.whole.Goals as goal
 

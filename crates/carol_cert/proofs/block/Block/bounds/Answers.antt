@@ -1,5 +1,5 @@
 use Rattle.std.proofs.Common.{subst, sym, arith}
-use Rattle.carol_cert_rows.specs.Place.{AreItems}
+use Rattle.carol_cert.specs.Place.{AreItems}
 use Rattle.carol_cert.specs.Block.{held}
 use Rattle.carol_cert.proofs.Blocks.{branches_bounds, items_of_sides}
 use Rattle.carol_cert.proofs.block.Block.bounds.Goals as goal

@@ -2,7 +2,7 @@ use Rattle.std.proofs.Common.{◌∷◌, [], ◌++◌, ap, sym, subst, ◌∙◌
 use Rattle.std.specs.Prelude.{FitsSigned, pos, ◌+ℤ◌}
 use Rattle.std.specs.Int.{w128}
 use Rattle.std.proofs.lemmas.Int.{to_z-of_z}
-use Rattle.carol_cert_rows.specs.declared.place.Item.TheVariants.{AtMost, AtLeast}
+use Rattle.carol_cert.specs.declared.place.Item.TheVariants.{AtMost, AtLeast}
 use Rattle.carol_cert.specs.Proof.{proof_of}
 use Rattle.carol_cert.specs.Left.{claims_below, waiting, IsSide}
 use Rattle.carol_cert.specs.Block.{held}

@@ -1,6 +1,6 @@
 use Rattle.std.proofs.Common.{◌+◌, ◌≤◌, length, arith, refl, subst, sym}
 use Rattle.carol_formula.specs.Tree.{claim_of}
-use Rattle.carol_linear_stage.specs.Due.{AreRows}
+use Rattle.carol_elimination.specs.Due.{AreRows}
 use Rattle.carol_decide.specs.Sizes.{AreReady}
 use Rattle.carol_decide.specs.Piece.{claims_in}
 use Rattle.carol_decide.specs.Frames.{turns_on}

@@ -1,5 +1,5 @@
 use Rattle.std.proofs.Common.{◌≤◌, length}
-use Rattle.carol_grant.specs.declared.row.TheConstants.{MOST_SESSIONS}
+use Rattle.carol_program.specs.declared.limits.TheConstants.{MOST_SESSIONS}
 use Rattle.carol_grant.proofs.Bare.{IsKept-bare, is_granted-bare}
 use Rattle.carol_grant.proofs.grants.Grants.new.Goals as goal
 

@@ -1,5 +1,5 @@
 use Rattle.std.proofs.Common.{◌≡◌, get_or, set, sym, ap, subst}
-use Rattle.carol_cert_rows.specs.declared.step.RowStep.{RowStep}
+use Rattle.carol_cert.specs.declared.step.RowStep.{RowStep}
 use Rattle.carol_formula.specs.declared.term.Row.{Row}
 use Rattle.carol_linear.proofs.Near.{exchanged}
 use Rattle.carol_linear.proofs.place.Place.exchange.Goals as goal

@@ -1,7 +1,7 @@
 use Rattle.std.proofs.Common.{◌≡◌, ◌+◌, ◌-◌, List, sym, ◌∙◌, ap, subst, arith}
 use Rattle.std.specs.Prelude.{Option}
 use Rattle.std.proofs.lemmas.Result.{IfOk-weaker}
-use Rattle.carol_cert_rows.specs.declared.step.RowStep.{RowStep}
+use Rattle.carol_cert.specs.declared.step.RowStep.{RowStep}
 use Rattle.carol_cert.specs.Proof.{Proof, Rows, proof_at, proof_of}
 use Rattle.carol_cert.specs.declared.tree.Refutation.{fold-roll-Refutation}
 use Rattle.carol_cert.specs.declared.tree.Refutation.TheOpen.{Refutation-F}

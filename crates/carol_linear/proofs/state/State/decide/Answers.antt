@@ -4,8 +4,8 @@ use Rattle.std.proofs.lemmas.Result.{IfOk-weaker}
 use Rattle.carol_formula.specs.Numbers.{number_at}
 use Rattle.carol_formula.specs.Linear.{Linear}
 use Rattle.carol_formula.specs.declared.term.Row.{Row}
-use Rattle.carol_cert_rows.specs.declared.step.RowStep.{RowStep}
-use Rattle.carol_linear_arena.specs.Entries.{terms_of}
+use Rattle.carol_cert.specs.declared.step.RowStep.{RowStep}
+use Rattle.carol_elimination.specs.Entries.{terms_of}
 use Rattle.carol_linear.specs.Place.{names_from}
 use Rattle.carol_linear.specs.Path.{frame_rows}
 use Rattle.carol_linear.specs.Visit.{IsVisit}

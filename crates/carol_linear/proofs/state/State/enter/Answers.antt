@@ -1,7 +1,7 @@
 use Rattle.std.proofs.Common.{ℕ, ◌≡◌, ◌+◌, [], ◌∷◌, ◌++◌, length, refl, ◌∙◌, ap, subst}
 use Rattle.carol_formula.specs.Linear.{Linear}
-use Rattle.carol_cert_rows.specs.declared.step.RowStep.{RowStep}
-use Rattle.carol_cert_rows.specs.declared.step.RowStep.TheVariants.{Given}
+use Rattle.carol_cert.specs.declared.step.RowStep.{RowStep}
+use Rattle.carol_cert.specs.declared.step.RowStep.TheVariants.{Given}
 use Rattle.carol_linear.specs.Path.{frame_row}
 use Rattle.carol_linear.specs.Near.{Adds}
 use Rattle.carol_linear.specs.State.{Keeps, IsSame, HasEntered}

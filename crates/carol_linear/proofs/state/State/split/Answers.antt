@@ -1,5 +1,5 @@
 use Rattle.std.proofs.Common.{ℕ, ◌≡◌, ◌+◌, ◌-◌, sym, ◌∙◌, subst, arith}
-use Rattle.carol_linear_stage.specs.Due.{IsDueFor}
+use Rattle.carol_elimination.specs.Due.{IsDueFor}
 use Rattle.carol_linear.specs.State.{all_rows}
 use Rattle.carol_linear.proofs.Climbing.{at_low, low_falls}
 use Rattle.carol_linear.proofs.state.State.split.Goals as goal

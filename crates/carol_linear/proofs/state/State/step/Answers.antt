@@ -2,9 +2,9 @@ use Rattle.std.proofs.Common.{◌≡◌, List, subst}
 use Rattle.std.specs.Prelude.{Option}
 use Rattle.std.proofs.lemmas.Result.{IfOk-weaker}
 use Rattle.carol_formula.specs.declared.term.Row.{Row}
-use Rattle.carol_cert_rows.specs.declared.step.RowStep.{RowStep}
-use Rattle.carol_linear_stage.specs.Due.{IsDueFor}
-use Rattle.carol_linear_arena.specs.Entries.{terms_of}
+use Rattle.carol_cert.specs.declared.step.RowStep.{RowStep}
+use Rattle.carol_elimination.specs.Due.{IsDueFor}
+use Rattle.carol_elimination.specs.Entries.{terms_of}
 use Rattle.carol_linear.specs.Visit.{IsVisit}
 use Rattle.carol_linear.specs.State.{Start, all_rows, IsAt, IsNext, CloseAt}
 use Rattle.carol_linear.specs.declared.answer.RowsAnswer.{RowsAnswer}

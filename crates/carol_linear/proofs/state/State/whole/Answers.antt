@@ -1,7 +1,7 @@
 use Rattle.std.proofs.Common.{◌<◌, List, ◌++◌, [], ◌∷◌, length, take, sym, ◌∙◌, ap, arith}
 use Rattle.carol_formula.specs.Linear.{Linear}
-use Rattle.carol_cert_rows.specs.declared.step.RowStep.{RowStep}
-use Rattle.carol_linear_arena.specs.Entries.{terms_of}
+use Rattle.carol_cert.specs.declared.step.RowStep.{RowStep}
+use Rattle.carol_elimination.specs.Entries.{terms_of}
 use Rattle.carol_linear.specs.Place.{names_from}
 use Rattle.carol_linear.specs.Path.{frame_rows}
 use Rattle.carol_linear.proofs.Paths.{rows_take, names_take}

@@ -1,5 +1,5 @@
 use Rattle.carol_syntax.specs.Files.{op_tree, param_tree}
-use Rattle.carol_print_canon.specs.Canonical.{param}
+use Rattle.carol_print.specs.Canonical.{param}
 use Rattle.carol_print.proofs.Texts.{map_twice}
 use Rattle.carol_print.proofs.Parts.{op_text}
 use Rattle.carol_print.proofs.programs.OpDeclPrinted.push_to.Goals as goal

@@ -1,4 +1,0 @@
-pub mod Cutting
-pub mod Feeds
-pub mod Fronts
-pub mod Parting

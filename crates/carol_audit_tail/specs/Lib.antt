@@ -1,4 +1,0 @@
-pub mod Firsts
-pub mod Laws
-pub mod Lines
-pub mod Tails

@@ -1,9 +1,0 @@
-use Rattle.carol_bound.proofs.Events.{runs_are_short}
-use Rattle.carol_bound.proofs.Reach.{nobody_is_behind}
-use Rattle.carol_bound.proofs.laws.bound_laws.Goals as goal
-
-pub returns-clause-short : goal.returns-clause-short
-returns-clause-short c = runs_are_short
-
-pub returns-clause-reach : goal.returns-clause-reach
-returns-clause-reach c = nobody_is_behind

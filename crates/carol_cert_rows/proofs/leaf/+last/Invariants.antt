@@ -1,5 +1,0 @@
-use Rattle.std.proofs.Common.{length}
-use Rattle.carol_cert_rows.proofs.leaf.+last.Given as goal
-
-abbrev pub decreases-last : goal.decreases-last
-decreases-last l = length l.steps.now

@@ -1,6 +1,0 @@
-pub mod PlainRow
-pub mod Cases
-pub mod Steps
-pub mod Place
-pub mod Columns
-pub mod Numbers

@@ -1,6 +1,0 @@
-use Rattle.std.proofs.Common.{◌≡◌, take}
-use Rattle.carol_difference_paths.proofs.Totals.{totals_of}
-use Rattle.carol_difference_paths.proofs.forest.Forest.totals.Given as goal
-
-abbrev pub invariant-loop-entry : goal.invariant-loop-entry
-invariant-loop-entry l = l.values.items ≡ totals_of l.self.entries.items (take l.entry-index l.self.latest.items)

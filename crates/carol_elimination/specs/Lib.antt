@@ -1,0 +1,15 @@
+pub mod Tightened
+pub mod Stage
+pub mod Values
+pub mod Due
+pub mod Stands
+pub mod Free
+pub mod Derived
+pub mod Reasons
+pub mod Combination
+pub mod Entries
+pub mod Extends
+pub mod Sides
+pub mod Outcome
+pub mod Limits
+pub mod Choosing

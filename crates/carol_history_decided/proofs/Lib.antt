@@ -1,6 +1,0 @@
-pub mod Passes
-pub mod Upheld
-pub mod Feeding
-pub mod Wishing
-pub mod Sames
-pub mod Decided

@@ -1,4 +1,0 @@
-pub mod Asked
-pub mod Effects
-pub mod Marked
-pub mod Numbers

@@ -1,5 +1,0 @@
-use Rattle.carol_history_numbers.proofs.Numbers.{numbers_fit}
-use Rattle.carol_history_numbers.proofs.laws.event_numbers.Goals as goal
-
-pub returns : goal.returns
-returns c = numbers_fit (record { uphold = c.simulation.ensures.uphold; named = c.history_laws.ensures.named })

@@ -1,2 +1,0 @@
-pub mod Issues
-pub mod Summary

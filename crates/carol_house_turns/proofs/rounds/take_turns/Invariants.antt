@@ -1,5 +1,0 @@
-use Rattle.carol_house_turns.proofs.Turning.{Turning}
-use Rattle.carol_house_turns.proofs.rounds.take_turns.Given as goal
-
-abbrev pub invariant-loop-session : goal.invariant-loop-session
-invariant-loop-session l = Turning l.fn.house l.session l.house

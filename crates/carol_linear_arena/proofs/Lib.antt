@@ -1,6 +1,0 @@
-pub mod Growing
-pub mod Extending
-pub mod Adding
-pub mod Combining
-pub mod Eliminating
-pub mod Ordering

@@ -1,4 +1,0 @@
-pub mod Making
-pub mod Marking
-pub mod Naming
-pub mod Following

@@ -1,5 +1,0 @@
-use Rattle.carol_linear_leaf.proofs.Following.{FollowsAll}
-use Rattle.carol_linear_leaf.proofs.copied.Given as goal
-
-abbrev pub invariant-loop-at : goal.invariant-loop-at
-invariant-loop-at l = FollowsAll l.steps l.marks l.names l.at l.pruned.places.items l.pruned.steps

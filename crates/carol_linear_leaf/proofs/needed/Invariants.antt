@@ -1,5 +1,0 @@
-use Rattle.carol_linear_leaf.proofs.Marking.{IsMarkedFrom}
-use Rattle.carol_linear_leaf.proofs.needed.Given as goal
-
-abbrev pub invariant-loop-at : goal.invariant-loop-at
-invariant-loop-at l = IsMarkedFrom l.at l.marks.items l.steps

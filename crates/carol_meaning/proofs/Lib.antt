@@ -1,0 +1,11 @@
+pub mod Examples
+pub mod Lists
+pub mod Among
+pub mod Terms
+pub mod Cells
+pub mod Looks
+pub mod Issues
+pub mod Orders
+pub mod Bodies
+pub mod Operations
+pub mod Programs

@@ -1,6 +1,0 @@
-pub mod Ways
-pub mod Sites
-pub mod Decoded
-pub mod Breaches
-pub mod Formed
-pub mod Places

@@ -1,7 +1,0 @@
-pub mod Truths
-pub mod Numbers
-pub mod Known
-pub mod Readings
-pub mod Effects
-pub mod Owed
-pub mod Exact

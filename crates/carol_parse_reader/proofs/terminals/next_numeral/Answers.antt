@@ -1,6 +1,0 @@
-use Rattle.std.proofs.Common.{◌∙◌}
-use Rattle.carol_parse_reader.proofs.Classes.{numbers_within}
-use Rattle.carol_parse_reader.proofs.terminals.next_numeral.Goals as goal
-
-pub returns : goal.returns
-returns c = c.next_within.ensures ∙ numbers_within c.args.tokens.now

@@ -1,7 +1,0 @@
-use Rattle.std.proofs.Common.{◌∙◌}
-use Rattle.carol_syntax_rules.specs.Rules.{positives}
-use Rattle.carol_parse_reader.proofs.Classes.{positive_within}
-use Rattle.carol_parse_reader.proofs.terminals.positive.Goals as goal
-
-pub returns-clause-reads : goal.returns-clause-reads
-returns-clause-reads c = c.taken.ensures.reads positives (c.next_within.ensures ∙ positive_within c.args.tokens.now)

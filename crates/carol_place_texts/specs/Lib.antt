@@ -1,4 +1,0 @@
-pub mod Named
-pub mod Trails
-pub mod Fitting
-pub mod Lines

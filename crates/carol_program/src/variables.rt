@@ -1,0 +1,17 @@
+// The numbers of the variables of a program's formulas and terms. A cell of the store itself, or of
+// the one that was read, has its own number.
+
+/// The variable of the first cell of the global store, in a guard.
+pub const FIRST_THERE: u32 = 16;
+
+/// The variable of the first parameter.
+pub const FIRST_PARAMETER: u32 = 32;
+
+/// The variable of the result.
+pub const RESULT_VARIABLE: u32 = 48;
+
+/// The variable of the first cell of the store that the query in slot 0 took.
+pub const FIRST_QUERIED: u32 = 64;
+
+/// How many variables there are for the cells of each store.
+pub const STORE_VARIABLES: u32 = 16;

@@ -1,0 +1,4 @@
+pub mod Classes
+pub mod Halting
+pub mod Folding
+pub mod Literals

@@ -1,0 +1,4 @@
+pub mod Scoped
+pub mod Heads
+pub mod Issues
+pub mod Points

@@ -1,0 +1,51 @@
+ghost use Rattle.std.specs.Prelude.{◌≡◌, ◌≤◌, length, map};
+ghost use Rattle.carol_meaning.specs.Declarations.{place_of};
+ghost use Rattle.carol_syntax.specs.Size.{most_items};
+
+use carol_names::{Cells, place_of};
+use carol_syntax::GuardDecl;
+use std::marker::Model;
+
+/// What the program declares that a body can name: its cells and its guards.
+#[derive(Drop)]
+pub struct Around<'a> {
+    cells: &'a Cells<'a>,
+    guards: &'a [GuardDecl],
+}
+
+impl<'a> Model for Around<'a> {
+    ghost use Rattle.std.specs.Prelude.{◌≤◌, length, map};
+    ghost use Rattle.carol_meaning.specs.Bodies as bodies;
+    ghost use Rattle.carol_syntax.specs.Size.{most_items};
+
+    ghost Value = { bodies.Around };
+
+    ghost view = { λ a. record { cells = a.cells.now; guards = map (λ g. g.name) a.guards.now } };
+
+    ghost invariant = { λ a. length a.guards.now ≤ most_items };
+}
+
+impl<'a> Around<'a> {
+    /// These cells, and these guards, of which there are at most 65,536.
+    pub fn new(cells: &'a Cells<'a>, guards: &'a [GuardDecl]) -> Around<'a>
+        requires { length guards.now ≤ most_items }
+        ensures { result ≡
+            record { cells = cells.entry.now; guards = map (λ g. g.name) guards.entry.now } }
+    {
+        Around { cells, guards }
+    }
+
+    /// Its cells.
+    pub fn cells(&self) -> &Cells<'a>
+        ensures { result.now ≡ self.now.cells }
+    {
+        self.cells
+    }
+
+    /// The number of the guard with this name.
+    pub(crate) fn guard(&self, word: &[u8]) -> Option<u32>
+        ensures { result ≡ place_of word.now self.now.guards }
+    {
+        place_of(self.guards, word)
+    }
+}

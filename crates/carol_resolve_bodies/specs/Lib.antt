@@ -1,3 +1,0 @@
-pub mod Heads
-pub mod Issues
-pub mod Points

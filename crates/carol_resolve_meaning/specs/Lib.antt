@@ -1,9 +1,0 @@
-pub mod Faults
-pub mod Declarations
-pub mod Cells
-pub mod Terms
-pub mod Stores
-pub mod Scopes
-pub mod Bodies
-pub mod Operations
-pub mod Programs

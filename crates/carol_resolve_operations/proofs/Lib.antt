@@ -1,4 +1,0 @@
-pub mod Along
-pub mod Known
-pub mod Params
-pub mod Parts

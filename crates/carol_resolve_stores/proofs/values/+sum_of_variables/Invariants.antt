@@ -1,4 +1,0 @@
-use Rattle.carol_resolve_stores.proofs.values.+sum_of_variables.Given as goal
-
-abbrev pub decreases-sum_of_variables : goal.decreases-sum_of_variables
-decreases-sum_of_variables l = l.count

@@ -1,9 +1,0 @@
-use Rattle.std.proofs.Common.{◌≡◌, length}
-use Rattle.carol_resolve_meaning.specs.Terms.{are_small}
-use Rattle.carol_resolve_terms.proofs.terms.are_small.Given as goal
-
-abbrev pub invariant-loop-pair : goal.invariant-loop-pair
-invariant-loop-pair l = are_small l.left ≡ are_small l.pairs
-
-abbrev pub decreases-loop-pair : goal.decreases-loop-pair
-decreases-loop-pair l = length l.left

@@ -1,5 +1,0 @@
-use Rattle.carol_syntax_meaning.proofs.Once.{bad_at_once, text_never_bad}
-use Rattle.carol_syntax_meaning.proofs.laws.one_bad.Goals as goal
-
-pub returns : goal.returns
-returns c = record { place = bad_at_once c.one_cut.ensures; none = text_never_bad c.one_cut.ensures }

@@ -1,5 +1,0 @@
-use Rattle.carol_syntax_meaning.proofs.Once.{outcome_once}
-use Rattle.carol_syntax_meaning.proofs.laws.one_outcome.Goals as goal
-
-pub returns : goal.returns
-returns c = outcome_once c.one_cut.ensures c.one_tree.ensures

@@ -1,6 +1,0 @@
-use Rattle.std.proofs.Common.{take}
-use Rattle.carol_syntax_meaning.specs.Reach.{BeginBy}
-use Rattle.carol_syntax_meaning.proofs.reading.count_up_to.Given as goal
-
-abbrev pub invariant-loop-index : goal.invariant-loop-index
-invariant-loop-index l = BeginBy l.at (take l.index l.tokens)

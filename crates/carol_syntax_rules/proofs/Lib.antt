@@ -1,3 +1,0 @@
-pub mod RulesSound
-pub mod OneTree
-pub mod TokenKinds

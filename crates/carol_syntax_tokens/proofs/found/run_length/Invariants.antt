@@ -1,7 +1,0 @@
-use Rattle.std.proofs.Common.{◌≡◌, ◌+◌, drop}
-use Rattle.std.specs.List.{prefix_len}
-use Rattle.carol_syntax.specs.Words.{is_word_byte}
-use Rattle.carol_syntax_tokens.proofs.found.run_length.Given as goal
-
-abbrev pub invariant-loop-at : goal.invariant-loop-at
-invariant-loop-at l = l.at + prefix_len is_word_byte (drop l.at l.bytes) ≡ prefix_len is_word_byte l.bytes

@@ -1,6 +1,0 @@
-use Rattle.carol_syntax_tokens.specs.Place.{start}
-use Rattle.carol_syntax_tokens.proofs.Cutting.{cut_once}
-use Rattle.carol_syntax_tokens.proofs.lexeme.one_cut.Goals as goal
-
-pub returns : goal.returns
-returns c = λ bytes xs ys s t d e h k. cut_once start bytes xs ys s t d e h k

@@ -1,6 +1,0 @@
-use Rattle.std.proofs.Common.{◌≡◌, map, take}
-use Rattle.carol_syntax_tokens.specs.Tokens.{token_of}
-use Rattle.carol_syntax_tokens.proofs.public.all_tokens.Given as goal
-
-abbrev pub invariant-loop-lexeme : goal.invariant-loop-lexeme
-invariant-loop-lexeme l = l.list ≡ map token_of (take l.lexeme-index l.lexemes)

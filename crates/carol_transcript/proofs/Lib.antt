@@ -1,4 +1,0 @@
-pub mod Comparing
-pub mod Rulings
-pub mod Single
-pub mod OneFinding
