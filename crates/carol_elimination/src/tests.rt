@@ -1,7 +1,7 @@
 ghost use Rattle.carol_formula.specs.Bounds.{IsBelow, term_limit};
 
 use super::*;
-use crate::{Outcome, eliminate, variables_of};
+use crate::{Allowance, Outcome, eliminate, variables_of};
 use carol_formula::{Row, Term, Variable};
 use std::alloc::Global;
 use std::test::Fail;
@@ -43,7 +43,7 @@ fn asked(alloc: Global, rows: &[Row]) -> Result<Verdict, Fail> {
         return Ok(Verdict::Unasked);
     }
     let variables = variables_of(alloc, rows)?;
-    let Outcome::Quiet(elimination) = eliminate(alloc, rows, &variables)? else {
+    let Outcome::Quiet(elimination) = eliminate(alloc, rows, &variables, &mut Allowance::new(1_000))? else {
         return Ok(Verdict::Unasked);
     };
     let choice = choose(alloc, rows, &variables, &elimination)?;

@@ -101,7 +101,11 @@ impl State {
         let mut most = 0;
         for share in shares {
             most = fused(most, share.times, share.most)?;
-            let times = if share.is_upper { share.times } else { negated(share.times)? };
+            let times = if share.is_upper {
+                share.times
+            } else {
+                negated(share.times)?
+            };
             for variable in &self.tableau.form(share.form)?.variables {
                 let sum = get_mut(&mut coefficients, variable.form)?;
                 *sum = fused(*sum, times, variable.times)?;
@@ -159,7 +163,11 @@ impl State {
             },
         )?;
         let bound = Bound {
-            value: if signed.is_turned { negated(most)? } else { most },
+            value: if signed.is_turned {
+                negated(most)?
+            } else {
+                most
+            },
             reason: Reason::Cut(number),
         };
         match self.take_bound(alloc, signed.form, !signed.is_turned, bound)? {

@@ -102,7 +102,7 @@ impl Form {
 }
 
 // How many chains of forms there are.
-const CHAINS: usize = 1024;
+const CHAINS: usize = 256;
 
 /// All forms. The first are the variables.
 #[derive(Debug, Drop)]

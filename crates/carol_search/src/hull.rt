@@ -34,7 +34,11 @@ fn keep(limits: &mut Vec<Limit>, limit: Limit) -> Result<(), Stop> {
 impl State {
     // The least that the product can be, as far as the bounds of its variable tell.
     fn least_of(&self, product_of: Product) -> Result<Option<i128>, Stop> {
-        match self.tableau.form(product_of.form)?.bound(product_of.times < 0) {
+        match self
+            .tableau
+            .form(product_of.form)?
+            .bound(product_of.times < 0)
+        {
             Some(bound) => Ok(Some(product(product_of.times, bound.value)?)),
             None => Ok(None),
         }
@@ -141,8 +145,16 @@ impl State {
         let Some(value) = found else {
             return Ok(None);
         };
-        let is_looser = if limit.is_upper { value > limit.value } else { value < limit.value };
-        Ok(Some(if is_looser { Limit { value, ..limit } } else { limit }))
+        let is_looser = if limit.is_upper {
+            value > limit.value
+        } else {
+            value < limit.value
+        };
+        Ok(Some(if is_looser {
+            Limit { value, ..limit }
+        } else {
+            limit
+        }))
     }
 
     /// A bound that both sides of the choice have and the model breaks.

@@ -56,11 +56,7 @@ fn searched(alloc: Global, formula: &Formula) -> Result<Found, Stop> {
     for _ in 0..STEPS {
         match task {
             Task::Found(values) => {
-                return Ok(Found::Numbers(valuation_of(
-                    alloc,
-                    &state.variables,
-                    &values,
-                )?));
+                return Ok(Found::Numbers(valuation_of(alloc, &state.variables, &values)?));
             }
             Task::Close(closed) if state.frames.is_empty() => {
                 return Ok(Found::Tree(refutation(alloc, &state, closed.tree)?));

@@ -12,6 +12,7 @@ const MOST_NODES: u32 = 65_536;
 
 // The parameters and the result of an operation: each stands in a group of its own.
 const ALONE_FROM: u32 = 32;
+
 const ALONE_BELOW: u32 = 64;
 
 // The other variables of one group have the same number but for the last four bits.
@@ -168,7 +169,11 @@ fn groups_of(alloc: Global, variables: &[u32]) -> Result<Vec<u32>, Stop> {
     let mut groups = Vec::new(alloc);
     for variable in variables {
         let is_alone = *variable >= ALONE_FROM && *variable < ALONE_BELOW;
-        let group = if is_alone { u32::MAX - *variable } else { *variable / GROUP };
+        let group = if is_alone {
+            u32::MAX - *variable
+        } else {
+            *variable / GROUP
+        };
         add(&mut groups, group)?;
     }
     Ok(groups)

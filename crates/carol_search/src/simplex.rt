@@ -160,8 +160,10 @@ impl Tableau {
     /// keep, with their multipliers.
     pub fn check(&mut self, alloc: Global) -> Result<Option<Vec<Cited>>, Stop> {
         for _ in 0..ROUNDS {
-            self.fuel.spend(self.rows.len().saturating_add(self.columns.len()))?;
-            self.fuel.spend(self.listed.len().saturating_add(self.used.len()))?;
+            self.fuel
+                .spend(self.rows.len().saturating_add(self.columns.len()))?;
+            self.fuel
+                .spend(self.listed.len().saturating_add(self.used.len()))?;
             if let Some(broken) = self.broken_row()? {
                 let Some(column) = self.entering(broken)? else {
                     return Ok(Some(self.conflict(alloc, broken)?));

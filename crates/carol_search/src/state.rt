@@ -37,7 +37,11 @@ pub enum Tree {
     /// The rows, each so many times, make an absurd row.
     Rows(Vec<Cited>),
     /// Both sides of the node are refuted, by these trees.
-    Split { node: usize, left: usize, right: usize },
+    Split {
+        node: usize,
+        left: usize,
+        right: usize,
+    },
     /// Both rows of a branch are refuted.
     Branch {
         form: usize,
@@ -67,7 +71,10 @@ pub enum Trial {
     /// The sides of the node.
     Split(usize),
     /// The variable is at most the number, or above it.
-    Branch { form: usize, most: i128 },
+    Branch {
+        form: usize,
+        most: i128,
+    },
     /// The same, where one of these follows from both sides of the node.
     Hull {
         form: usize,
@@ -320,7 +327,11 @@ impl State {
                 for variable in &self.tableau.form(form)?.variables {
                     total = total.plus(variable.times, at(model, variable.form)?)?;
                 }
-                if is_upper { total.is_at_most(value) } else { total.is_at_least(value) }
+                if is_upper {
+                    total.is_at_most(value)
+                } else {
+                    total.is_at_least(value)
+                }
             }
         }
     }
@@ -336,10 +347,10 @@ impl State {
             Sort::False => Ok(false),
             Sort::Le => self.is_row_true(model, node.first),
             Sort::Eq => Ok(
-                self.is_row_true(model, node.first)? && self.is_row_true(model, node.second)?
+                self.is_row_true(model, node.first)? && self.is_row_true(model, node.second)?,
             ),
             Sort::Ne => Ok(
-                self.is_row_true(model, node.first)? || self.is_row_true(model, node.second)?
+                self.is_row_true(model, node.first)? || self.is_row_true(model, node.second)?,
             ),
             Sort::And => {
                 if !self.is_true_within(model, node.left, deep - 1)? {
@@ -425,7 +436,11 @@ impl State {
             let right = self.false_within(model, node.right, deep - 1)?;
             return Ok(left.saturating_add(right));
         }
-        if self.is_true(model, number)? { Ok(0) } else { Ok(1) }
+        if self.is_true(model, number)? {
+            Ok(0)
+        } else {
+            Ok(1)
+        }
     }
 
     /// How many conjuncts of the side the model makes false.

@@ -377,7 +377,11 @@ impl Tableau {
         let mut entries = Vec::new(alloc);
         for (i, other) in old.entries.iter().enumerate() {
             let number = if i == column {
-                if entry > 0 { old.denominator } else { negated(old.denominator)? }
+                if entry > 0 {
+                    old.denominator
+                } else {
+                    negated(old.denominator)?
+                }
             } else if entry > 0 {
                 negated(*other)?
             } else {

@@ -12,6 +12,7 @@ use std::alloc::Global;
 
 // How many jobs are done at most, and how many wait at most. A refutation is no deeper than that.
 const JOBS: u32 = 4_000_000;
+
 const MOST_WAITING: usize = 8_000;
 
 // What is to be done for the refutation. What comes last is done first.

@@ -14,6 +14,7 @@ const LEVELS: usize = 1_500;
 
 // How often cuts are tried where nothing is branched on, and elsewhere.
 const ROUNDS: usize = 8;
+
 const ROUNDS_BELOW: usize = 2;
 
 /// What is next.
@@ -143,7 +144,11 @@ impl State {
 
     // Tries the bound that both sides of the choice have.
     fn split_hull(&mut self, alloc: Global, node: usize, limit: Limit) -> Result<Task, Stop> {
-        let most = if limit.is_upper { limit.value } else { sum(limit.value, -1)? };
+        let most = if limit.is_upper {
+            limit.value
+        } else {
+            sum(limit.value, -1)?
+        };
         let trial = Trial::Hull {
             form: limit.form,
             most,
@@ -246,10 +251,12 @@ impl State {
             done,
             done_row,
         } = frame;
-        let Some(Closed {
-            tree: first,
-            levels: first_levels,
-        }) = done
+        let Some(
+            Closed {
+                tree: first,
+                levels: first_levels,
+            },
+        ) = done
         else {
             return Err(Stop::GivenUp);
         };
@@ -268,28 +275,16 @@ impl State {
             tree: first,
         };
         let other = BranchTree { row, tree: second };
-        let (low, high) = if is_turned { (other, one) } else { (one, other) };
-        let tree = self.trees.len();
-        match trial {
-            Trial::Split(node) => {
-                cite(&mut levels, self.node(node)?.level)?;
-                let joined = Tree::Split {
-                    node,
-                    left: low.tree,
-                    right: high.tree,
-                };
-                add(&mut self.trees, joined)?;
-            }
-            Trial::Branch { form, most } | Trial::Hull { form, most, .. } => {
-                let joined = Tree::Branch {
-                    form,
-                    most,
-                    low,
-                    high,
-                };
-                add(&mut self.trees, joined)?;
-            }
+        let (low, high) = if is_turned {
+            (other, one)
+        } else {
+            (one, other)
+        };
+        if let Trial::Split(node) = trial {
+            cite(&mut levels, self.node(node)?.level)?;
         }
+        let tree = self.trees.len();
+        add(&mut self.trees, joined(trial, low, high))?;
         Ok(Closed { tree, levels })
     }
 
@@ -304,7 +299,11 @@ impl State {
         for value in model {
             let down = value.down()?;
             let is_whole = value.is_at_most(down)?;
-            let number = if is_up && !is_whole { sum(down, 1)? } else { down };
+            let number = if is_up && !is_whole {
+                sum(down, 1)?
+            } else {
+                down
+            };
             add(&mut numbers, Fraction::whole(number))?;
         }
         Ok(numbers)
@@ -325,7 +324,11 @@ impl State {
 
     // Rows and choices hold: looks for whole numbers.
     fn whole(&mut self, alloc: Global) -> Result<Task, Stop> {
-        let rounds = if self.branching == 0 { ROUNDS } else { ROUNDS_BELOW };
+        let rounds = if self.branching == 0 {
+            ROUNDS
+        } else {
+            ROUNDS_BELOW
+        };
         for _ in 0..rounds {
             let rows = self.fractions(alloc)?;
             if rows.is_empty() {
@@ -361,6 +364,33 @@ impl State {
             }
         }
         found(alloc, &model)
+    }
+}
+
+// The tree of both sides of what was tried.
+fn joined(trial: Trial, low: BranchTree, high: BranchTree) -> Tree {
+    match trial {
+        Trial::Split(node) => Tree::Split {
+            node,
+            left: low.tree,
+            right: high.tree,
+        },
+        Trial::Branch { form, most } => Tree::Branch {
+            form,
+            most,
+            low,
+            high,
+        },
+        Trial::Hull {
+            form,
+            most,
+            node: _,
+        } => Tree::Branch {
+            form,
+            most,
+            low,
+            high,
+        },
     }
 }
 
