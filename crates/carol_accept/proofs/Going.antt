@@ -23,7 +23,7 @@ pub record Going (wanted : ℕ) (t : Trail) (left : Step) (start : Trail) (whole
   pub part : size-Step left ≤ size-Step whole
 
 -- the first statement is the wanted one
-found_first : (wanted : ℕ) (t : Trail) (b : Body) → number_of b ≡ wanted → trail_to wanted b t ≡ Some t
+pub found_first : (wanted : ℕ) (t : Trail) (b : Body) → number_of b ≡ wanted → trail_to wanted b t ≡ Some t
 found_first wanted t (Query number guard slot next) e = ap (λ x. cond x (Some t) (trail_to wanted next (behind_query slot t))) (eq-eqb number wanted e)
 found_first wanted t (Issue number parts next) e = ap (λ x. cond x (Some t) (trail_to wanted next (behind_closing t))) (eq-eqb number wanted e)
 found_first wanted t (Release number next) e = ap (λ x. cond x (Some t) (trail_to wanted next (behind_closing t))) (eq-eqb number wanted e)

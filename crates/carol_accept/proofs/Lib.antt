@@ -4,3 +4,6 @@ mod Texts
 mod AccordTexts
 mod Starting
 mod Refusing
+mod Trailing
+mod Decoding
+mod Telling

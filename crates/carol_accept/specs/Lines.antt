@@ -29,15 +29,15 @@ abbrev pub queries_text : (ℕ → List ℕ) → (ℕ → ℤ) → ℕ → List 
 queries_text name f cells [] = []
 queries_text name f cells (a ∷ more) = own_text name f cells (query_variable a.slot 0) ++ queries_text name f cells more
 
--- the round has a query
-abbrev pub has_query : ℕ → List Asked → Bool
-has_query round [] = false
-has_query round (a ∷ more) = if a.round == round then true else has_query round more
+-- one of the queries belongs to the round
+abbrev pub asks_in : ℕ → List Asked → Bool
+asks_in round [] = false
+asks_in round (a ∷ more) = if a.round == round then true else asks_in round more
 
 -- the round whose numbers are shown for this one: where it has no query, it may have any store, and has
 -- that of the round of the place
 abbrev pub shown_for : Trail → ℕ → ℕ
-shown_for t round = if has_query round t.asked then round else t.rounds
+shown_for t round = if asks_in round t.asked then round else t.rounds
 
 -- the stores of so many rounds from this one on
 abbrev pub rounds_text : (ℕ → List ℕ) → (ℕ → ℤ) → ℕ → Trail → ℕ → ℕ → List ℕ

@@ -8,14 +8,10 @@ use Rattle.carol_program.specs.declared.accords.Entry.TheVariants.{Yes, No}
 use Rattle.carol_program.specs.declared.names.Names.{Names}
 use Rattle.carol_program.specs.Accords.{Accords, entry_of}
 use Rattle.carol_reading.specs.Kept.{Kept}
-use Rattle.carol_accept.specs.Named.{name_at}
+use Rattle.carol_accept.specs.Named.{name_at, way_word}
 
 abbrev pub line_feed : List ℕ
 line_feed = 10 ∷ []
-
-abbrev pub way_word : Bool → List ℕ
-way_word true = codes " up "
-way_word false = codes " down "
 
 abbrev pub answer_word : Option Entry → List ℕ
 answer_word (Some Yes) = codes "yes"
@@ -25,7 +21,7 @@ answer_word None = []
 -- whether this way of the cell keeps the guard
 abbrev pub way_text : Names → Accords → ℕ → ℕ → Bool → List ℕ
 way_text names table guard cell up =
-    name_at names.cells cell ++ (way_word up ++ (answer_word (entry_of table guard cell up) ++ line_feed))
+    name_at names.cells cell ++ (way_word up ++ (codes " " ++ (answer_word (entry_of table guard cell up) ++ line_feed)))
 
 -- these ways of the cell
 abbrev pub ways_text : Names → Accords → ℕ → ℕ → List Bool → List ℕ

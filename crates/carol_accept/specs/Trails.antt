@@ -1,6 +1,7 @@
 -- How a body comes to one of its statements.
 use Rattle.std.specs.Prelude.{ℕ, ◌+◌, ◌==◌, if◌then◌else◌, [], ◌∷◌, ◌++◌, Option, Some, None}
 use Rattle.carol_program.specs.Bodies.{Body, Query, Issue, Release, Branch, Return}
+use Rattle.carol_obligation.specs.Ways.{Way, Asks, Puts, Frees, Tests}
 use Rattle.carol_accept.specs.declared.trail.Trail.{Trail}
 
 -- at the beginning of a body
@@ -14,6 +15,14 @@ behind_query slot t = record { asked = t.asked ++ record { slot = slot; round = 
 -- behind an issue or a release, which ends a round
 abbrev pub behind_closing : Trail → Trail
 behind_closing t = record { asked = t.asked; rounds = t.rounds + 1 }
+
+-- along a way to a place
+abbrev pub trail_of : Way → Trail
+trail_of [] = start
+trail_of (Asks guard slot ∷ way) = behind_query slot (trail_of way)
+trail_of (Puts parts ∷ way) = behind_closing (trail_of way)
+trail_of (Frees ∷ way) = behind_closing (trail_of way)
+trail_of (Tests test side ∷ way) = trail_of way
 
 abbrev pub number_of : Body → ℕ
 number_of (Query number guard slot next) = number

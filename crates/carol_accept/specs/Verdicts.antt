@@ -1,5 +1,6 @@
 -- The texts of refusals.
 use Rattle.std.specs.Prelude.{ℕ, List, [], ◌∷◌, ◌++◌, codes, ℤ}
+use Rattle.std.specs.Fmt.{decimal}
 use Rattle.carol_formula.specs.Numbers.{number_at}
 use Rattle.carol_program.specs.declared.program.Program.{Program}
 use Rattle.carol_program.specs.declared.names.Names.{Names}
@@ -8,6 +9,7 @@ use Rattle.carol_program.specs.declared.places.Place.TheVariants.{Initial, Refle
 use Rattle.carol_program.specs.Rules.{rules_in}
 use Rattle.carol_program.specs.Variables.{number_in}
 use Rattle.carol_program.specs.WellFormed.{AreRules}
+use Rattle.carol_decide.specs.declared.answer.TheConstants.{MOST_LEAVES}
 use Rattle.carol_decide.specs.declared.answer.Why.{Why}
 use Rattle.carol_decide.specs.declared.answer.Why.TheVariants.{Leaves, Wide, Far}
 use Rattle.carol_accept.specs.Named.{place_text, variable_text}
@@ -19,24 +21,28 @@ use Rattle.carol_accept.specs.declared.refused.Refused.TheVariants.{InitialFails
 abbrev pub line : List ℕ → List ℕ
 line text = text ++ 10 ∷ []
 
--- what was found, and where
-abbrev pub head_text : List ℕ → Names → Place → List ℕ
-head_text word names place = line word ++ line (codes "place " ++ place_text names place)
+-- where something is found
+abbrev pub place_line : Names → Place → List ℕ
+place_line names place = line (codes "place " ++ place_text names place)
+
+-- the place, and the numbers that are shown there
+unfoldable pub breach_text : Program → Place → (ℕ → ℤ) → List ℕ
+breach_text program place f = place_line program.names place ++ lines_text (rules_in program) program.names place f
 
 -- numbers break what is asked at the place
-unfoldable pub refused_text : Program → Place → (ℕ → ℤ) → List ℕ
-refused_text program place f =
-    head_text (codes "refused") program.names place ++ (lines_text (rules_in program) program.names place f ++ line (codes "end"))
+abbrev pub refused_text : Program → Place → (ℕ → ℤ) → List ℕ
+refused_text program place f = line (codes "refused") ++ (breach_text program place f ++ line (codes "end"))
 
 -- why it is undecided
 abbrev pub why_text : Names → Place → Why → List ℕ
-why_text names place (Leaves tree) = codes "leaves 20000"
+why_text names place (Leaves tree) = codes "leaves " ++ decimal MOST_LEAVES
 why_text names place (Wide w) = codes "wide " ++ variable_text names place w.variable
 why_text names place (Far f) = codes "far"
 
+-- it stays undecided whether what is asked at the place is so
 unfoldable pub undecided_text : Program → Place → Why → List ℕ
 undecided_text program place why =
-    head_text (codes "undecided") program.names place ++ (line (why_text program.names place why) ++ line (codes "end"))
+    line (codes "undecided") ++ (place_line program.names place ++ (line (why_text program.names place why) ++ line (codes "end")))
 
 -- a refusal of a program
 abbrev pub verdict_text : Refused → List ℕ

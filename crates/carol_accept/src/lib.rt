@@ -13,8 +13,8 @@ mod trail;
 mod verdict;
 
 pub use check::accept;
-pub use lines::push_lines;
+pub use lines::{line_laws, push_lines};
 pub use names::{push_name, push_place, push_text, push_variable};
 pub use refused::Refused;
 pub use text::accord_text;
-pub use verdict::verdict_text;
+pub use verdict::{breach_text, undecided_text, verdict_text};

@@ -11,6 +11,7 @@ ghost use Rattle.carol_program.specs.Limits.{
 ghost use Rattle.carol_program.specs.Rules.{op_rules, rules_in};
 ghost use Rattle.carol_program.specs.WellFormed.{AreRules};
 ghost use Rattle.carol_accept.specs.Fitting.{IsShort, StandsBehind};
+ghost use Rattle.carol_accept.specs.LineLaws.{LinesTell, TrailsAreWays};
 ghost use Rattle.carol_accept.specs.Lines.{
   lines_text,
   line_text,
@@ -199,3 +200,12 @@ pub fn push_lines<L: Lookup>(
         | Place::Outcome { op, number } => shown.push_statement(alloc, out, program, op, number),
     }
 }
+
+/// What holds of the lines at every place of an operation. It does nothing, and is called for its
+/// clauses.
+pub fn line_laws()
+    // The queries and rounds that are shown are those on the way to the place.
+    ensures trails { TrailsAreWays }
+    // Numbers with the same lines as a breach are one.
+    ensures tell { LinesTell }
+{}

@@ -72,8 +72,8 @@ fn push_statement(out: &mut Vec<u8>, names: &Names, op: u32, number: u32) -> Res
     push_integer(out, number)
 }
 
-// Appends the word of a cell's way.
-fn push_way(out: &mut Vec<u8>, up: bool) -> Result<(), AllocError>
+/// Appends the word of a cell's way.
+pub(crate) fn push_way_word(out: &mut Vec<u8>, up: bool) -> Result<(), AllocError>
     ensures { OnOk result (out.new.items ≡ out.old.items ++ way_word up) }
 {
     push_text(out, if up { " up" } else { " down" })
@@ -96,7 +96,7 @@ pub fn push_place(out: &mut Vec<u8>, names: &Names, place: Place) -> Result<(), 
             push_name(out, names.guards.as_slice(), guard)?;
             push_text(out, " ")?;
             push_name(out, names.cells.as_slice(), cell)?;
-            push_way(out, up)
+            push_way_word(out, up)
         }
         Place::Amount { op, number, atom } => {
             push_statement(out, names, op, number)?;

@@ -8,7 +8,7 @@ ghost use Rattle.carol_accept.specs.Texts.{
   way_text,
 };
 
-use crate::{push_name, push_text};
+use crate::names::{push_name, push_text, push_way_word};
 use carol_program::{AccordTable, Entry, Names};
 use carol_reading::Accepted;
 use carol_store::CellKind;
@@ -40,7 +40,8 @@ fn push_way(
         ++ way_text names.now table.now guard cell up) }
 {
     push_name(out, names.cells.as_slice(), cell)?;
-    push_text(out, if up { " up " } else { " down " })?;
+    push_way_word(out, up)?;
+    push_text(out, " ")?;
     push_text(out, answer_word(table.entry(guard, cell, up)))?;
     push_text(out, "\n")
 }

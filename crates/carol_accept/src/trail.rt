@@ -2,7 +2,7 @@ ghost use Rattle.std.specs.Prelude.{◌≡◌, ◌<◌, ◌+◌, length};
 ghost use Rattle.carol_program.specs.Bodies.{body_of};
 ghost use Rattle.carol_store.specs.declared.short_list.TheConstants.{MOST_CELLS};
 ghost use Rattle.carol_accept.specs.Fitting.{StandsBehind};
-ghost use Rattle.carol_accept.specs.Lines.{shown_for, has_query};
+ghost use Rattle.carol_accept.specs.Lines.{shown_for, asks_in};
 ghost use Rattle.carol_accept.specs.Trails.{behind_closing, behind_query, number_of, start, trail_to};
 
 use carol_program::Step;
@@ -62,9 +62,9 @@ impl Trail {
         self.rounds += 1;
     }
 
-    // The round has a query.
-    fn has_query(&self, round: u32) -> bool
-        ensures { result ≡ has_query round self.now.asked }
+    // One of the queries belongs to the round.
+    fn asks_in(&self, round: u32) -> bool
+        ensures { result ≡ asks_in round self.now.asked }
     {
         let mut left = self.asked.as_slice();
         while let Some((first, more)) = left.split_first() {
@@ -80,7 +80,7 @@ impl Trail {
     pub(crate) fn shown_for(&self, round: u32) -> u32
         ensures { result ≡ shown_for self.now round }
     {
-        if self.has_query(round) {
+        if self.asks_in(round) {
             round
         } else {
             self.rounds

@@ -2,28 +2,29 @@ ghost use Rattle.std.specs.Prelude.{◌≡◌, ◌++◌, OnOk, IfOk};
 ghost use Rattle.carol_accept.specs.Verdicts as text;
 ghost use Rattle.carol_accept.specs.Verdicts.{
   HasRules,
-  head_text,
   line,
+  place_line,
   refused_text,
-  undecided_text,
   why_text,
 };
+ghost use Rattle.carol_formula.specs.Numbers.{number_at};
 ghost use Rattle.carol_program.specs.Rules.{rules_in};
 ghost use Rattle.carol_program.specs.WellFormed.{AreRules};
 
+use crate::lines::push_lines;
+use crate::names::{push_place, push_text, push_variable};
 use crate::refused::Refused;
-use crate::{push_lines, push_place, push_text, push_variable};
-use carol_decide::Why;
-use carol_formula::Lookup;
+use carol_decide::{MOST_LEAVES, Why};
+use carol_formula::{Lookup, Valuation};
 use carol_program::{Names, OneStore, Place, Program};
+use carol_text::push_integer;
 use std::alloc::{AllocError, Global};
 
-// Appends what was found, and where.
-fn push_head(out: &mut Vec<u8>, word: &str, names: &Names, place: Place) -> Result<(), AllocError>
-    ensures { OnOk result (out.new.items ≡ out.old.items ++ head_text word.now names.now place) }
+// Appends where something is found.
+fn push_place_line(out: &mut Vec<u8>, names: &Names, place: Place) -> Result<(), AllocError>
+    ensures { OnOk result (out.new.items ≡ out.old.items ++ place_line names.now place) }
 {
-    push_text(out, word)?;
-    push_text(out, "\nplace ")?;
+    push_text(out, "place ")?;
     push_place(out, names, place)?;
     push_text(out, "\n")
 }
@@ -33,7 +34,11 @@ fn push_why(out: &mut Vec<u8>, names: &Names, place: Place, why: &Why) -> Result
     ensures { OnOk result (out.new.items ≡ out.old.items ++ line (why_text names.now place why.now)) }
 {
     match why {
-        Why::Leaves(_) => push_text(out, "leaves 20000\n"),
+        Why::Leaves(_) => {
+            push_text(out, "leaves ")?;
+            push_integer(out, MOST_LEAVES)?;
+            push_text(out, "\n")
+        }
         Why::Wide(wide) => {
             push_text(out, "wide ")?;
             push_variable(out, names, place, wide.variable)?;
@@ -43,8 +48,41 @@ fn push_why(out: &mut Vec<u8>, names: &Names, place: Place, why: &Why) -> Result
     }
 }
 
+// Appends the place and the numbers that are shown there.
+#[tactic(auto, unfolding(crate::specs::Verdicts::breach_text))]
+fn push_breach<L: Lookup>(
+    alloc: Global,
+    out: &mut Vec<u8>,
+    program: &Program,
+    place: Place,
+    numbers: &L,
+) -> Result<(), AllocError>
+    requires { AreRules (rules_in program.now) }
+    ensures { OnOk result (out.new.items ≡ out.old.items
+        ++ text.breach_text program.now place (L.numbers numbers.now)) }
+{
+    push_place_line(out, &program.names, place)?;
+    push_lines(alloc, out, program, place, numbers)
+}
+
+/// The text of a breach of a well-formed program: a line with the place, and a line for each number
+/// that is shown there.
+pub fn breach_text(
+    alloc: Global,
+    program: &Program,
+    place: &Place,
+    at: &Valuation,
+) -> Result<Vec<u8>, AllocError>
+    requires { AreRules (rules_in program.now) }
+    ensures { IfOk result (λ bytes. bytes.items
+        ≡ text.breach_text program.now place.now (number_at at.now)) }
+{
+    let mut out = Vec::new(alloc);
+    push_breach(alloc, &mut out, program, *place, at)?;
+    Ok(out)
+}
+
 // Numbers break what is asked at the place.
-#[tactic(auto, unfolding(crate::specs::Verdicts::refused_text))]
 fn refused_text<L: Lookup>(
     alloc: Global,
     program: &Program,
@@ -56,24 +94,28 @@ fn refused_text<L: Lookup>(
         ≡ refused_text program.now place (L.numbers numbers.now)) }
 {
     let mut out = Vec::new(alloc);
-    push_head(&mut out, "refused", &program.names, place)?;
-    push_lines(alloc, &mut out, program, place, numbers)?;
+    push_text(&mut out, "refused\n")?;
+    push_breach(alloc, &mut out, program, place, numbers)?;
     push_text(&mut out, "end\n")?;
     Ok(out)
 }
 
+/// The text that it stays undecided whether what is asked at the place is so: `undecided`, the
+/// place, the reason, and `end`.
 #[tactic(auto, unfolding(crate::specs::Verdicts::undecided_text))]
-fn undecided_text(
+pub fn undecided_text(
     alloc: Global,
     program: &Program,
-    place: Place,
+    place: &Place,
     why: &Why,
 ) -> Result<Vec<u8>, AllocError>
-    ensures { IfOk result (λ bytes. bytes.items ≡ undecided_text program.now place why.now) }
+    ensures { IfOk result (λ bytes. bytes.items
+        ≡ text.undecided_text program.now place.now why.now) }
 {
     let mut out = Vec::new(alloc);
-    push_head(&mut out, "undecided", &program.names, place)?;
-    push_why(&mut out, &program.names, place, why)?;
+    push_text(&mut out, "undecided\n")?;
+    push_place_line(&mut out, &program.names, *place)?;
+    push_why(&mut out, &program.names, *place, why)?;
     push_text(&mut out, "end\n")?;
     Ok(out)
 }
@@ -92,7 +134,7 @@ pub fn verdict_text(alloc: Global, refused: &Refused) -> Result<Vec<u8>, AllocEr
             refused_text(alloc, program, Place::Reflexive { guard: *guard }, at)
         }
         Refused::Fails(program, place, at) => refused_text(alloc, program, *place, at),
-        Refused::Undecided(program, place, why) => undecided_text(alloc, program, *place, why),
+        Refused::Undecided(program, place, why) => undecided_text(alloc, program, place, why),
         Refused::NoMemory => unreachable!(),
     }
 }

@@ -1,10 +1,10 @@
 -- What the work comes to where a formula is decided.
-use Rattle.std.proofs.Common.{◌≡◌, ℕ, true, sym, ◌∙◌, ap, subst}
-use Rattle.std.specs.Prelude.{◌↔◌, ℤ, List, Some, slice_get}
+use Rattle.std.proofs.Common.{◌≡◌, ℕ, ◌∙◌, ap, subst}
+use Rattle.std.specs.Prelude.{ℤ, List, Some, slice_get}
 use Rattle.carol_cert.specs.declared.tree.Refutation.{Refutation}
 use Rattle.carol_store.specs.declared.shape.CellKind.{CellKind}
 use Rattle.carol_store.specs.declared.direction.Direction.{Direction}
-use Rattle.carol_formula.specs.Claim.{Claim, truth}
+use Rattle.carol_formula.specs.Claim.{Claim}
 use Rattle.carol_formula.specs.Numbers.{number_at}
 use Rattle.carol_decide.specs.declared.answer.Answer.{Answer}
 use Rattle.carol_decide.specs.declared.answer.Answer.TheVariants.{Unsat, Sat, Undecided}
@@ -14,20 +14,12 @@ use Rattle.carol_program.specs.Rules.{Rules}
 use Rattle.carol_reading.specs.Good.{IsReflexive}
 use Rattle.carol_accord.specs.Broken.{BreaksEqual, BreaksStep}
 use Rattle.carol_accord.specs.Formed.{equal_claim, step_claim}
-use Rattle.carol_accord.specs.Inferred.{IsReason}
-use Rattle.carol_accord.specs.Parts.{IsGuard, Decides, IsKept}
+use Rattle.carol_accord.specs.Inferred.{IsEqualReason, IsStepReason}
+use Rattle.carol_accord.specs.Parts.{IsGuard, Decides}
 use Rattle.carol_accord.proofs.Exact.{equal-exact, equal-never, step-exact, step-never}
 
 decides-as : {c d : Claim} {answer other : Answer} → c ≡ d → answer ≡ other → Decides c answer → Decides d other
 decides-as {d = d} {answer = answer} e i h = subst (Decides d) i (subst (λ (x : Claim). Decides x answer) e h)
-
--- a kept reason is one for what the formula is exact for
-kept-reason : {claim : Claim} {why : Why} (breaks : (ℕ → ℤ) → Type 0) → ((f : ℕ → ℤ) → (truth claim f ≡ true) ↔ breaks f) → IsKept claim why → IsReason breaks why
-kept-reason breaks exact k = record {
-  formula = k.formula;
-  exact = λ f. (λ h. (exact f).0 (sym (k.same f) ∙ h), λ b. k.same f ∙ (exact f).1 b);
-  reason = k.reason;
-}
 
 -- ---- equal stores
 
@@ -41,8 +33,8 @@ module _ (p : Rules) (guard : Claim) (g : IsGuard p.shape guard) (kinds : List C
   pub equal_no : (at : List (ℕ × ℤ)) → answer ≡ Sat at → BreaksEqual p.shape guard (number_at at)
   equal_no at e = (equal-exact p.shape guard g (number_at at)).0 (decides-as whole e h)
 
-  pub equal_open : (why : Why) → answer ≡ Undecided why → IsReason (BreaksEqual p.shape guard) why
-  equal_open why e = kept-reason (BreaksEqual p.shape guard) (equal-exact p.shape guard g) (decides-as whole e h)
+  pub equal_open : (why : Why) → answer ≡ Undecided why → IsEqualReason p.shape guard why
+  equal_open why e = record { exact = equal-exact p.shape guard g; stuck = decides-as whole e h }
 
 -- ---- a step
 
@@ -56,5 +48,5 @@ module _ (shape : List CellKind) (guard : Claim) (g : IsGuard shape guard) (kind
   pub step_no : (numbers : List (ℕ × ℤ)) → answer ≡ Sat numbers → BreaksStep shape guard step (number_at numbers)
   step_no numbers e = (step-exact shape guard g kind step at (number_at numbers)).0 (decides-as step_whole e h)
 
-  pub step_open : (why : Why) → answer ≡ Undecided why → IsReason (BreaksStep shape guard step) why
-  step_open why e = kept-reason (BreaksStep shape guard step) (step-exact shape guard g kind step at) (decides-as step_whole e h)
+  pub step_open : (why : Why) → answer ≡ Undecided why → IsStepReason shape guard step why
+  step_open why e = record { kind = kind; of_kind = at; reason = record { exact = step-exact shape guard g kind step at; stuck = decides-as step_whole e h } }

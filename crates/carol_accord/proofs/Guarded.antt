@@ -19,7 +19,7 @@ use Rattle.carol_reading.specs.Good.{IsReflexive}
 use Rattle.carol_accord.specs.declared.error.AccordError.{AccordError}
 use Rattle.carol_accord.specs.declared.error.AccordError.TheVariants.{NotReflexive, Undecided, NoMemory}
 use Rattle.carol_accord.specs.Broken.{BreaksStep}
-use Rattle.carol_accord.specs.Inferred.{IsSettled, IsDecided, ComesTo, ComesToStep, IsReason, step_of, steps_of, FailsReflexive, StaysUndecided, HasWitnesses}
+use Rattle.carol_accord.specs.Inferred.{IsSettled, IsDecided, ComesTo, ComesToStep, IsStepReason, step_of, steps_of, FailsReflexive, StaysUndecided, HasWitnesses}
 use Rattle.carol_accord.specs.Parts.{IsGuard, IsEntry, AreEntries, IsAccord, AreAll, StopsStep, Stops}
 use Rattle.carol_accord.proofs.Listed.{all-at, length-steps, step-place}
 
@@ -91,7 +91,7 @@ module _ (p : Rules) (guard : Claim) where
   stops_step number step (Undecided (Accord n cell up) why) k h = (
     h.0,
     subst (λ (d : Direction). ComesToStep p guard d) (sym h.1) k,
-    subst (λ (d : Direction). IsReason (BreaksStep p.shape guard d) why) (sym h.1) h.2,
+    subst (λ (d : Direction). IsStepReason p.shape guard d why) (sym h.1) h.2,
   )
   stops_step number step (Undecided Initial why) k h = absurd h
   stops_step number step (Undecided (Reflexive n) why) k h = absurd h

@@ -13,63 +13,15 @@ use Rattle.carol_formula.proofs.Weights.{weight-sum_of, weight-difference_of, Is
 use Rattle.carol_formula.specs.Named.{AllNamed, IsNameable, IsNameableClaim, named_mass, named_weight, named_claim}
 use Rattle.carol_formula.proofs.Renamings.{weight-named_claim}
 use Rattle.carol_program.specs.Variables.{guard_variables, there_variable}
-use Rattle.carol_program.specs.WellFormed.{AreSmall, IsTermOver, nodes}
-use Rattle.carol_decide.specs.Sizes.{nodes_of}
+use Rattle.carol_program.specs.WellFormed.{AreSmall, IsTermOver}
+use Rattle.carol_formula.specs.Size.{nodes_of, IsLight}
 use Rattle.carol_accord.specs.Formed.{with_flag, flags, equal_name, equal_claim, stepped_name, step_name, step_claim}
-use Rattle.carol_accord.specs.Parts.{IsGuard, IsLight, most_formula}
+use Rattle.carol_accord.specs.Parts.{IsGuard, most_formula}
 
 -- ---- differences and sums within a limit
 
 pub IsWithin-difference : (limit : ℕ) (s t : Linear) → weight s + weight t < limit → IsWithin limit (difference_of s t)
 IsWithin-difference limit s t h = IsWithin-weight limit (difference_of s t) (omega (arith, weight-difference_of s t))
-
--- ---- the form without `Not`
-
-pub narrow : (c : Claim) → IsLight c → ClaimWithin narrow_limit c
-narrow True h = tt
-narrow False h = tt
-narrow (Le t) h = IsWithin-weight narrow_limit t (omega (arith, h))
-narrow (Eq t) h = IsWithin-weight narrow_limit t (omega (arith, h))
-narrow (Ne t) h = IsWithin-weight narrow_limit t (omega (arith, h))
-narrow (And a b) h = (narrow a h.0, narrow b h.1)
-narrow (Or a b) h = (narrow a h.0, narrow b h.1)
-narrow (Not a) h = narrow a h
-
-pub narrow_form : (flag : Bool) (c : Claim) → IsLight c → ClaimWithin narrow_limit (without_not flag c)
-narrow_form true True h = tt
-narrow_form false True h = tt
-narrow_form true False h = tt
-narrow_form false False h = tt
-narrow_form true (Le t) h = IsWithin-weight narrow_limit t (omega (arith, h))
-narrow_form false (Le t) h = IsWithin-difference narrow_limit (constant_of (pos 1)) t (omega (arith, h))
-narrow_form true (Eq t) h = IsWithin-weight narrow_limit t (omega (arith, h))
-narrow_form false (Eq t) h = IsWithin-weight narrow_limit t (omega (arith, h))
-narrow_form true (Ne t) h = IsWithin-weight narrow_limit t (omega (arith, h))
-narrow_form false (Ne t) h = IsWithin-weight narrow_limit t (omega (arith, h))
-narrow_form true (And a b) h = (narrow_form true a h.0, narrow_form true b h.1)
-narrow_form false (And a b) h = (narrow_form false a h.0, narrow_form false b h.1)
-narrow_form true (Or a b) h = (narrow_form true a h.0, narrow_form true b h.1)
-narrow_form false (Or a b) h = (narrow_form false a h.0, narrow_form false b h.1)
-narrow_form true (Not a) h = narrow_form false a h
-narrow_form false (Not a) h = narrow_form true a h
-
-pub nodes-form : (flag : Bool) (c : Claim) → nodes_of (without_not flag c) ≤ nodes c
-nodes-form true True = omega arith
-nodes-form false True = omega arith
-nodes-form true False = omega arith
-nodes-form false False = omega arith
-nodes-form true (Le t) = omega arith
-nodes-form false (Le t) = omega arith
-nodes-form true (Eq t) = omega arith
-nodes-form false (Eq t) = omega arith
-nodes-form true (Ne t) = omega arith
-nodes-form false (Ne t) = omega arith
-nodes-form true (And a b) = omega (arith, nodes-form true a, nodes-form true b)
-nodes-form false (And a b) = omega (arith, nodes-form false a, nodes-form false b)
-nodes-form true (Or a b) = omega (arith, nodes-form true a, nodes-form true b)
-nodes-form false (Or a b) = omega (arith, nodes-form false a, nodes-form false b)
-nodes-form true (Not a) = omega (arith, nodes-form false a)
-nodes-form false (Not a) = omega (arith, nodes-form true a)
 
 -- ---- a guard
 
@@ -145,7 +97,7 @@ module _ (can : ℕ → Type 0) (name : ℕ → Linear) (ranges : List (ℕ × �
       lighter (Or a b) h = (lighter a h.0, lighter b h.1)
       lighter (Not a) h = lighter a h
 
-nodes-named : (name : ℕ → Linear) (c : Claim) → nodes (named_claim name c) ≡ nodes c
+nodes-named : (name : ℕ → Linear) (c : Claim) → nodes_of (named_claim name c) ≡ nodes_of c
 nodes-named name True = omega arith
 nodes-named name False = omega arith
 nodes-named name (Le t) = omega arith
@@ -180,7 +132,7 @@ with_flag-light Counter v c h = h
 with_flag-light Peak v c h = h
 with_flag-light Flag v c h = ((omega (arith, weight-difference_of (constant_of (pos 0)) (variable_of v)), omega (arith, weight-difference_of (variable_of v) (constant_of (pos 1)))), h)
 
-with_flag-nodes : (kind : CellKind) (v : ℕ) (c : Claim) → nodes (with_flag kind v c) ≤ nodes c + 4
+with_flag-nodes : (kind : CellKind) (v : ℕ) (c : Claim) → nodes_of (with_flag kind v c) ≤ nodes_of c + 4
 with_flag-nodes Counter v c = omega arith
 with_flag-nodes Peak v c = omega arith
 with_flag-nodes Flag v c = omega arith
@@ -189,7 +141,7 @@ flags-light : (kinds : List CellKind) (base : ℕ) → IsLight (flags kinds base
 flags-light [] base = tt
 flags-light (kind ∷ kinds) base = with_flag-light kind base (flags kinds (base + 1)) (flags-light kinds (base + 1))
 
-flags-nodes : (kinds : List CellKind) (base : ℕ) → nodes (flags kinds base) ≤ 4 * length kinds + 1
+flags-nodes : (kinds : List CellKind) (base : ℕ) → nodes_of (flags kinds base) ≤ 4 * length kinds + 1
 flags-nodes [] base = omega arith
 flags-nodes (kind ∷ kinds) base = omega (arith, with_flag-nodes kind base (flags kinds (base + 1)), flags-nodes kinds (base + 1))
 
@@ -198,7 +150,7 @@ flags-nodes (kind ∷ kinds) base = omega (arith, with_flag-nodes kind base (fla
 pub equal_light : (kinds : List CellKind) (guard : Claim) → IsGuard kinds guard → IsLight (equal_claim kinds guard)
 equal_light kinds guard g = (flags-light kinds 0, light_named (λ v. ⊤) equal_name (guard_variables kinds) equal_named guard g.over.terms)
 
-pub equal_nodes : (kinds : List CellKind) (guard : Claim) → IsGuard kinds guard → nodes (equal_claim kinds guard) ≤ most_formula
+pub equal_nodes : (kinds : List CellKind) (guard : Claim) → IsGuard kinds guard → nodes_of (equal_claim kinds guard) ≤ most_formula
 equal_nodes kinds guard g = omega (arith, flags-nodes kinds 0, nodes-named equal_name guard, g.few, g.over.few)
 
 pub step_light : (kinds : List CellKind) (guard : Claim) (kind : CellKind) (step : Direction) → IsGuard kinds guard → step.cell < 16 → IsLight (step_claim kinds guard kind step)
@@ -207,5 +159,5 @@ step_light kinds guard kind step g h = (
   (light_guard (guard_variables kinds) guard g.over.terms, light_named (λ v. step.cell < 16) (step_name kind step) (guard_variables kinds) (step_named kind step h) guard g.over.terms),
 )
 
-pub step_nodes : (kinds : List CellKind) (guard : Claim) (kind : CellKind) (step : Direction) → IsGuard kinds guard → nodes (step_claim kinds guard kind step) ≤ most_formula
+pub step_nodes : (kinds : List CellKind) (guard : Claim) (kind : CellKind) (step : Direction) → IsGuard kinds guard → nodes_of (step_claim kinds guard kind step) ≤ most_formula
 step_nodes kinds guard kind step g = omega (arith, flags-nodes kinds 0, flags-nodes kinds 16, nodes-named (step_name kind step) guard, g.few, g.over.few)

@@ -4,10 +4,10 @@ use Rattle.std.specs.List.{AllByRecursion}
 use Rattle.carol_store.specs.declared.shape.CellKind.{CellKind}
 use Rattle.carol_store.specs.declared.direction.Direction.{Direction}
 use Rattle.carol_store.specs.Kinds.{ways}
-use Rattle.carol_formula.specs.Claim.{Claim, truth}
+use Rattle.carol_formula.specs.Claim.{Claim, truth, without_not}
 use Rattle.carol_formula.specs.Numbers.{number_at}
 use Rattle.carol_decide.specs.declared.answer.Why.{Why}
-use Rattle.carol_decide.specs.Answer.{IsWhy}
+use Rattle.carol_decide.specs.Answer.{IsStuck}
 use Rattle.carol_program.specs.declared.accords.Entry.TheVariants.{No}
 use Rattle.carol_program.specs.declared.places.Place.{Place}
 use Rattle.carol_program.specs.declared.places.Place.TheVariants.{Reflexive, Accord}
@@ -15,10 +15,10 @@ use Rattle.carol_program.specs.Accords.{Accords, HasWay, entry_of}
 use Rattle.carol_program.specs.Preserving.{Preserves}
 use Rattle.carol_program.specs.Rules.{Rules}
 use Rattle.carol_reading.specs.Good.{IsReflexive}
-use Rattle.carol_accord.specs.declared.deciding.TheConstants.{MOST_LEAVES}
 use Rattle.carol_accord.specs.declared.error.AccordError.{AccordError}
 use Rattle.carol_accord.specs.declared.error.AccordError.TheVariants.{NotReflexive, Undecided, NoMemory}
 use Rattle.carol_accord.specs.Broken.{BreaksEqual, BreaksStep}
+use Rattle.carol_accord.specs.Formed.{equal_claim, step_claim}
 
 -- ---- the order
 
@@ -66,11 +66,20 @@ pub record ComesToStep (p : Rules) (guard : Claim) (direction : Direction) : Typ
 
 -- ---- errors
 
--- the reason is kept for a formula that is true of exactly the numbers that break something
-pub record IsReason (breaks : (ℕ → ℤ) → Type 0) (why : Why) : Type 0 where
-  pub formula : Claim
+-- the formula is true of exactly the numbers that break something, and its decision ends for this reason
+pub record IsReason (formula : Claim) (breaks : (ℕ → ℤ) → Type 0) (why : Why) : Type 0 where
   pub exact : (f : ℕ → ℤ) → (truth formula f ≡ true) ↔ breaks f
-  pub reason : IsWhy formula MOST_LEAVES why
+  pub stuck : IsStuck (without_not true formula) why
+
+-- the decision whether the guard is true of equal stores ends for this reason
+abbrev pub IsEqualReason : List CellKind → Claim → Why → Type 0
+IsEqualReason kinds guard why = IsReason (equal_claim kinds guard) (BreaksEqual kinds guard) why
+
+-- the decision whether the step keeps the guard does
+pub record IsStepReason (kinds : List CellKind) (guard : Claim) (direction : Direction) (why : Why) : Type 0 where
+  pub kind : CellKind
+  pub of_kind : slice_get kinds direction.cell ≡ Some kind
+  pub reason : IsReason (step_claim kinds guard kind direction) (BreaksStep kinds guard direction) why
 
 -- the numbers break the guard at equal stores, and all before it is decided
 pub record IsNotReflexive (p : Rules) (number : ℕ) (f : ℕ → ℤ) : Type 0 where
@@ -82,14 +91,14 @@ pub record IsNotReflexive (p : Rules) (number : ℕ) (f : ℕ → ℤ) : Type 0 
 pub record IsOpenGuard (p : Rules) (number : ℕ) (why : Why) : Type 0 where
   pub guard : Claim
   pub first : ComesTo p number guard
-  pub reason : IsReason (BreaksEqual p.shape guard) why
+  pub reason : IsEqualReason p.shape guard why
 
 -- it stays open whether the step keeps the guard, and all before it is decided
 pub record IsOpenStep (p : Rules) (number : ℕ) (direction : Direction) (why : Why) : Type 0 where
   pub guard : Claim
   pub first : ComesTo p number guard
   pub first_step : ComesToStep p guard direction
-  pub reason : IsReason (BreaksStep p.shape guard direction) why
+  pub reason : IsStepReason p.shape guard direction why
 
 abbrev pub IsOpenAt : Rules → Place → Why → Type 0
 IsOpenAt p (Reflexive number) why = IsOpenGuard p number why

@@ -2,13 +2,12 @@
 use Rattle.std.specs.Prelude.{◌≡◌, ◌<◌, ◌≤◌, ◌^◌, ℕ, true, false, List, [], ◌∷◌, ◌++◌, length, ℤ}
 use Rattle.carol_store.specs.declared.shape.CellKind.{CellKind}
 use Rattle.carol_store.specs.declared.direction.Direction.{Direction}
-use Rattle.carol_formula.specs.Claim.{Claim, EachTerm, truth}
-use Rattle.carol_formula.specs.Weight.{weight}
+use Rattle.carol_formula.specs.Claim.{Claim, truth, without_not}
 use Rattle.carol_formula.specs.Numbers.{number_at}
 use Rattle.carol_decide.specs.declared.answer.Answer.{Answer}
 use Rattle.carol_decide.specs.declared.answer.Answer.TheVariants as answer
 use Rattle.carol_decide.specs.declared.answer.Why.{Why}
-use Rattle.carol_decide.specs.Answer.{IsWhy}
+use Rattle.carol_decide.specs.Answer.{IsStuck}
 use Rattle.carol_program.specs.declared.accords.Entry.{Entry}
 use Rattle.carol_program.specs.declared.accords.Entry.TheVariants.{Yes, No}
 use Rattle.carol_program.specs.declared.places.Place.{Place}
@@ -19,11 +18,10 @@ use Rattle.carol_program.specs.Rules.{Rules}
 use Rattle.carol_program.specs.Variables.{guard_variables}
 use Rattle.carol_program.specs.WellFormed.{IsFormulaOver}
 use Rattle.carol_reading.specs.Good.{IsReflexive}
-use Rattle.carol_accord.specs.declared.deciding.TheConstants.{MOST_LEAVES}
 use Rattle.carol_accord.specs.declared.error.AccordError.{AccordError}
 use Rattle.carol_accord.specs.declared.error.AccordError.TheVariants.{NotReflexive, Undecided, NoMemory}
 use Rattle.carol_accord.specs.Broken.{BreaksEqual, BreaksStep}
-use Rattle.carol_accord.specs.Inferred.{IsReason, ComesToStep, step_of, steps_of}
+use Rattle.carol_accord.specs.Inferred.{IsEqualReason, IsStepReason, ComesToStep, step_of, steps_of}
 
 -- a guard of a program with cells of these kinds
 pub record IsGuard (kinds : List CellKind) (guard : Claim) : Type 0 where
@@ -32,29 +30,19 @@ pub record IsGuard (kinds : List CellKind) (guard : Claim) : Type 0 where
 
 -- ---- one formula
 
--- no term weighs much
-abbrev pub IsLight : Claim → Type 0
-IsLight c = EachTerm (λ t. weight t < 2 ^ 89) c
-
 -- how many nodes a formula that is decided has at the most
 abbrev pub most_formula : ℕ
 most_formula = 1000
 
--- the reason is kept for a formula that is true where this one is
-pub record IsKept (claim : Claim) (why : Why) : Type 0 where
-  pub formula : Claim
-  pub same : (f : ℕ → ℤ) → truth formula f ≡ truth claim f
-  pub reason : IsWhy formula MOST_LEAVES why
-
 abbrev pub Decides : Claim → Answer → Type 0
 Decides claim (answer.Unsat tree) = (f : ℕ → ℤ) → truth claim f ≡ false
 Decides claim (answer.Sat at) = truth claim (number_at at) ≡ true
-Decides claim (answer.Undecided why) = IsKept claim why
+Decides claim (answer.Undecided why) = IsStuck (without_not true claim) why
 
 -- ---- one guard at equal stores
 
 abbrev pub OpensEqual : Rules → ℕ → Claim → Place → Why → Type 0
-OpensEqual p number guard (Reflexive n) why = (n ≡ number) × IsReason (BreaksEqual p.shape guard) why
+OpensEqual p number guard (Reflexive n) why = (n ≡ number) × IsEqualReason p.shape guard why
 OpensEqual p number guard place why = ⊥
 
 -- what stops the work there; the guard has this number
@@ -71,7 +59,7 @@ IsEntry kinds guard direction (No at) = BreaksStep kinds guard direction (number
 
 abbrev pub OpensStep : Rules → ℕ → Claim → Direction → Place → Why → Type 0
 OpensStep p number guard direction (Accord n cell up) why =
-    (n ≡ number) × (step_of cell up ≡ direction) × IsReason (BreaksStep p.shape guard direction) why
+    (n ≡ number) × (step_of cell up ≡ direction) × IsStepReason p.shape guard direction why
 OpensStep p number guard direction place why = ⊥
 
 -- what stops the work there; the guard has this number
@@ -93,9 +81,9 @@ pub record IsAccord (p : Rules) (guard : Claim) (entries : List Entry) : Type 0 
   pub entries_are : AreEntries p.shape guard (steps_of p.shape) entries
 
 abbrev pub OpensAt : Rules → ℕ → Claim → Place → Why → Type 0
-OpensAt p number guard (Reflexive n) why = (n ≡ number) × IsReason (BreaksEqual p.shape guard) why
+OpensAt p number guard (Reflexive n) why = (n ≡ number) × IsEqualReason p.shape guard why
 OpensAt p number guard (Accord n cell up) why =
-    (n ≡ number) × ComesToStep p guard (step_of cell up) × IsReason (BreaksStep p.shape guard (step_of cell up)) why
+    (n ≡ number) × ComesToStep p guard (step_of cell up) × IsStepReason p.shape guard (step_of cell up) why
 OpensAt p number guard place why = ⊥
 
 -- what stops the work at a guard, which has this number

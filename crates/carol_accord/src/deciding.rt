@@ -1,19 +1,16 @@
 ghost use Rattle.std.specs.Prelude.{◌≤◌, IfOk};
+ghost use Rattle.carol_formula.specs.Size.{IsLight, nodes_of};
 ghost use Rattle.carol_formula.specs.Tree.{claim_of};
-ghost use Rattle.carol_program.specs.WellFormed.{nodes};
-ghost use Rattle.carol_accord.specs.Parts.{Decides, IsLight, most_formula};
+ghost use Rattle.carol_accord.specs.Parts.{Decides, most_formula};
 
-use carol_decide::{Answer, decide};
+use carol_decide::{Answer, MOST_LEAVES, decide};
 use carol_formula::Formula;
 use std::alloc::{AllocError, Global};
-
-/// How many turns are taken at the most for one formula.
-pub const MOST_LEAVES: u32 = 20_000;
 
 /// Whether numbers for the variables make the formula true.
 pub(crate) fn decided(alloc: Global, formula: &Formula) -> Result<Answer, AllocError>
     requires light { IsLight (claim_of formula.now) }
-    requires small { nodes (claim_of formula.now) ≤ most_formula }
+    requires small { nodes_of (claim_of formula.now) ≤ most_formula }
     ensures { IfOk result (Decides (claim_of formula.now)) }
 {
     let plain = formula.negation_form(alloc)?;

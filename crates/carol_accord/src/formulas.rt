@@ -1,11 +1,10 @@
 ghost use Rattle.std.specs.Prelude.{◌≡◌, ◌≢◌, ◌+◌, ◌<◌, ◌^◌, Err, Ok, length, IfOk};
-ghost use Rattle.carol_formula.specs.Claim as claim;
 ghost use Rattle.carol_formula.specs.Tree.{claim_of};
 ghost use Rattle.carol_accord.specs.Formed.{is_flag, with_flag, flags, equal_claim, step_claim};
 ghost use Rattle.carol_accord.specs.Parts.{IsGuard};
 
 use crate::names::{EqualNames, StepNames};
-use carol_formula::{Boxed, Formula, Term, TermError, Variable, renamed};
+use carol_formula::{Formula, Term, TermError, Variable, renamed};
 use carol_store::{CellKind, Direction};
 use std::alloc::{AllocError, Global};
 
@@ -21,23 +20,6 @@ pub(crate) fn narrow(made: Result<Term, TermError>) -> Result<Term, AllocError>
     }
 }
 
-// Both formulas.
-fn and(alloc: Global, left: Formula, right: Formula) -> Result<Formula, AllocError>
-    ensures { IfOk result (λ f. claim_of f ≡ claim.And (claim_of left) (claim_of right)) }
-{
-    let left = Boxed::new(alloc, left)?;
-    let right = Boxed::new(alloc, right)?;
-    Ok(Formula::And(left, right))
-}
-
-// The denial of a formula.
-fn not(alloc: Global, formula: Formula) -> Result<Formula, AllocError>
-    ensures { IfOk result (λ f. claim_of f ≡ claim.Not (claim_of formula)) }
-{
-    let inner = Boxed::new(alloc, formula)?;
-    Ok(Formula::Not(inner))
-}
-
 // The variable is 0 or 1.
 fn is_flag(alloc: Global, v: u32) -> Result<Formula, AllocError>
     ensures { IfOk result (λ f. claim_of f ≡ is_flag v) }
@@ -45,7 +27,7 @@ fn is_flag(alloc: Global, v: u32) -> Result<Formula, AllocError>
     let flag = Term::variable(alloc, Variable(v))?;
     let least = narrow(Term::constant(alloc, 0).sub(&flag))?;
     let most = narrow(flag.sub(&Term::constant(alloc, 1)))?;
-    and(alloc, Formula::Le(least), Formula::Le(most))
+    Formula::and(alloc, Formula::Le(least), Formula::Le(most))
 }
 
 // What is said of the cell with this variable, and the rest.
@@ -54,7 +36,7 @@ fn with_flag(alloc: Global, kind: CellKind, v: u32, rest: Formula) -> Result<For
 {
     if matches!(kind, CellKind::Flag) {
         let flag = is_flag(alloc, v)?;
-        return and(alloc, flag, rest);
+        return Formula::and(alloc, flag, rest);
     }
     Ok(rest)
 }
@@ -82,8 +64,8 @@ pub(crate) fn equal_formula(
 {
     let stores = flags(alloc, kinds, 0)?;
     let holds = renamed(alloc, guard, &EqualNames)?;
-    let fails = not(alloc, holds)?;
-    and(alloc, stores, fails)
+    let fails = Formula::not(alloc, holds)?;
+    Formula::and(alloc, stores, fails)
 }
 
 /// The guard is true of two stores, and false after a step in the global one, of a cell of this
@@ -102,10 +84,10 @@ pub(crate) fn step_formula(
 {
     let here = flags(alloc, kinds, 0)?;
     let there = flags(alloc, kinds, 16)?;
-    let stores = and(alloc, here, there)?;
+    let stores = Formula::and(alloc, here, there)?;
     let before = guard.copy(alloc)?;
     let after = renamed(alloc, guard, &StepNames { kind, direction })?;
-    let fails = not(alloc, after)?;
-    let breaks = and(alloc, before, fails)?;
-    and(alloc, stores, breaks)
+    let fails = Formula::not(alloc, after)?;
+    let breaks = Formula::and(alloc, before, fails)?;
+    Formula::and(alloc, stores, breaks)
 }

@@ -26,7 +26,6 @@ mod steps;
 
 use crate::entries::all_entries;
 use carol_program::{AccordTable, Program};
-pub use deciding::MOST_LEAVES;
 pub use error::AccordError;
 use std::alloc::Global;
 

@@ -7,13 +7,14 @@ use Rattle.carol_event.specs.Kinds.{kind_of, word_of}
 use Rattle.carol_event.specs.Lines.{event_at}
 use Rattle.carol_event.specs.Numbers.{Each, HasNumbers}
 use Rattle.carol_event.specs.Texts.{event_line, event_text}
+use Rattle.carol_event.proofs.Places.{bad_no_event, one_place}
 use Rattle.carol_event.proofs.RoundTrip.{event_again, no_event, same_event}
 use Rattle.carol_history.specs.declared.history.TheConstants.{MOST_EVENTS}
 use Rattle.carol_audit.specs.declared.error.TailError.{TailError}
 use Rattle.carol_audit.specs.declared.error.TailError.TheVariants.{Bad, TooLarge, NoMemory}
 use Rattle.carol_audit.specs.Firsts.{IsFirstFault}
 use Rattle.carol_audit.specs.Lines.{HasNoFeed}
-use Rattle.carol_audit.specs.Tails.{Front, HasBad, HasEvents, HasTooMany, IsBadFirst, IsEventFirst, IsFault, IsResultsFirst}
+use Rattle.carol_audit.specs.Tails.{Front, HasBad, HasEvents, HasTooMany, IsBadFirst, IsCutAt, IsEventFirst, IsFault, IsResultsFirst}
 use Rattle.carol_audit.proofs.Feeds.{feed_in, no_feed-event, one_cut}
 
 -- the line of an event is its text and a line feed
@@ -38,7 +39,7 @@ event_not_bad : (bytes : List ℕ) (event : Event) (rest : List ℕ) (column : �
 event_not_bad bytes event rest column first (inl bad) =
     let same = sym (first.are ∙ line_in event rest) ∙ bad.are
     in let text = (one_cut (event_text event) bad.line rest bad.rest (no_feed-event event first.fits) bad.whole same).0
-    in no_event bad.line bad.bad.0 event first.fits (sym text) bad.bad.1
+    in bad_no_event bad.line column event first.fits (sym text) bad.bad
 event_not_bad bytes event rest column first (inr cut) =
     feed_in (event_text event) rest (rw (first.are ∙ line_in event rest) at cut.whole)
 
@@ -51,13 +52,16 @@ results_not_bad bytes column results (inr cut) = feed_in (codes "results") resul
 one_column : (bytes : List ℕ) (column other : ℕ) → IsBadFirst bytes column → IsBadFirst bytes other → column ≡ other
 one_column bytes column other (inl a) (inl b) =
     let same : a.line ≡ b.line = (one_cut a.line b.line a.rest b.rest a.whole b.whole (sym a.are ∙ b.are)).0
-    in let left : Err a.bad.0 ≡ Err b.bad.0 = sym a.bad.1 ∙ ap event_at same ∙ b.bad.1
-    in let equal : a.bad.0 ≡ b.bad.0 = cc
-    in let long : length a.line ≡ length b.line = ap length same
-    in omega (arith, a.bad.2, b.bad.2)
+    in one_place b.line column other (rw same at a.bad) b.bad
 one_column bytes column other (inl a) (inr b) = absurd (feed_in a.line a.rest (rw a.are at b.whole))
 one_column bytes column other (inr a) (inl b) = absurd (feed_in b.line b.rest (rw b.are at a.whole))
-one_column bytes column other (inr a) (inr b) = omega (arith, a.bad, b.bad)
+one_column bytes column other (inr a) (inr b) = one_end a.bad b.bad
+  where
+    one_end : IsCutAt bytes column → IsCutAt bytes other → column ≡ other
+    one_end (inl x) (inl y) = omega (arith, x.1, y.1)
+    one_end (inl x) (inr y) = absurd (y.0 x.0)
+    one_end (inr x) (inl y) = absurd (x.0 y.0)
+    one_end (inr x) (inr y) = one_place bytes column other x.1 y.1
 
 -- ---- the events in front
 

@@ -43,7 +43,7 @@ legal_before p scene one other event run (middle, are) =
     ap reverse are ∙ reverse-append one (event ∷ middle) ∙ ap (λ (t : List Event). t ++ reverse one) (reverse-append (event ∷ []) middle) ∙ append_assoc (reverse middle) (event ∷ []) (reverse one)
     in legal_within p scene (reverse middle) event (reverse one) (rw split at run)
 
-one_event : (p : Rules) (scene : Scene) (events : List Event) (number second : ℕ) → IsFirstFalse p scene events number → IsFirstFalse p scene events second
+pub one_event : (p : Rules) (scene : Scene) (events : List Event) (number second : ℕ) → IsFirstFalse p scene events number → IsFirstFalse p scene events second
     → number ≡ second
 one_event p scene events number second h g = elim (cuts h.before g.before h.event g.event h.after g.after (sym h.are ∙ g.are)) [
   | inl same ↦ h.counted ∙ ap (λ (t : List Event). length t + 1) same ∙ sym g.counted

@@ -2,13 +2,13 @@
 use Rattle.std.specs.Prelude.{◌≡◌, ◌≢◌, ℕ, ◌+◌, ◌≤◌, List, codes, length, drop, Option, Some, None, Result, Ok, Err}
 use Rattle.carol_event.specs.declared.error.LineError.{LineError}
 use Rattle.carol_event.specs.declared.error.LineError.TheVariants as line_error
-use Rattle.carol_event.specs.Lines.{Parses}
+use Rattle.carol_event.specs.Faults.{IsBad}
 use Rattle.carol_event.specs.Numbers.{HasNumbers}
 use Rattle.carol_event.specs.Texts.{event_text}
 use Rattle.carol_audit.specs.declared.error.TailError.{TailError}
 use Rattle.carol_audit.specs.declared.error.TailError.TheVariants.{Bad, TooLarge, NoMemory}
 use Rattle.carol_audit.specs.declared.first.Taken.{Taken}
-use Rattle.carol_audit.specs.Tails.{IsBadFirst, IsEventFirst, IsResultsFirst, left_in_cut}
+use Rattle.carol_audit.specs.Tails.{IsBadFirst, IsCutAt, IsEventFirst, IsResultsFirst}
 
 -- the line with this number is bad
 abbrev pub IsFirstFault : List ℕ → ℕ → TailError → Type 0
@@ -26,7 +26,7 @@ Finds bytes number (Err error) = IsFirstFault bytes number error
 -- the same of the line alone, which a line feed ends
 abbrev pub IsLineFault : List ℕ → ℕ → TailError → Type 0
 IsLineFault line number (Bad place column) =
-    (place ≡ number) × Parses line (Err (line_error.Bad column))
+    (place ≡ number) × IsBad line column
 IsLineFault line number TooLarge = ⊥
 IsLineFault line number NoMemory = Unit {0}
 
@@ -39,7 +39,7 @@ FindsInLine line number (Err error) = (line ≢ codes "results") × IsLineFault 
 -- what is wrong with a line that no line feed ends
 abbrev pub Cuts : List ℕ → ℕ → TailError → Type 0
 Cuts line number (Bad place column) =
-    (place ≡ number) × (column + left_in_cut line ≡ length line + 1)
+    (place ≡ number) × IsCutAt line column
 Cuts line number TooLarge = ⊥
 Cuts line number NoMemory = Unit {0}
 

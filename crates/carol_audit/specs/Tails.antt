@@ -1,11 +1,10 @@
 -- The tail of a transcript: the bytes behind its first line.
-use Rattle.std.specs.Prelude.{◌≡◌, ◌≢◌, ◌⊎◌, ℕ, ◌+◌, ◌≤◌, List, [], ◌∷◌, ◌++◌, codes, length, flat_map, Result, Ok, Err, nat_eq, if◌then◌else◌}
+use Rattle.std.specs.Prelude.{◌≡◌, ◌≢◌, ◌⊎◌, ℕ, ◌+◌, ◌≤◌, true, List, ◌∷◌, ◌++◌, codes, length, flat_map, nat_eq}
 use Rattle.std.specs.List.{starts_with}
 use Rattle.carol_event.specs.declared.event.Event.{Event}
-use Rattle.carol_event.specs.declared.error.LineError.TheVariants as line_error
-use Rattle.carol_event.specs.Lines.{Parses, event_at}
+use Rattle.carol_event.specs.Faults.{IsBad}
 use Rattle.carol_event.specs.Numbers.{Each, HasNumbers}
-use Rattle.carol_event.specs.Texts.{event_line}
+use Rattle.carol_event.specs.Texts.{event_line, event_text}
 use Rattle.carol_history.specs.declared.history.TheConstants.{MOST_EVENTS}
 use Rattle.carol_audit.specs.declared.error.TailError.{TailError}
 use Rattle.carol_audit.specs.declared.error.TailError.TheVariants.{Bad, TooLarge, NoMemory}
@@ -37,22 +36,22 @@ pub record IsBadLine (bytes : List ℕ) (column : ℕ) : Type 0 where
   pub are : bytes ≡ line ++ 10 ∷ rest
   pub whole : HasNoFeed line
   pub other : line ≢ codes "results"
-  pub bad : Parses line (Err (line_error.Bad column))
+  pub bad : IsBad line column
 
-abbrev pub left_of : Result Event ℕ → ℕ
-left_of (Ok event) = 0
-left_of (Err left) = left
+-- nothing but its end is missing: the line may go on as `results`, or it is an event's text
+abbrev pub LacksEnd : List ℕ → Type 0
+LacksEnd line = (starts_with nat_eq (codes "results") line ≡ true)
+    ⊎ ((event : Event) × HasNumbers event × (line ≡ event_text event))
 
--- how many bytes are left from the first bad one on, where no line feed ends the line: none where
--- it might go on as `results` or as an event's text
-abbrev pub left_in_cut : List ℕ → ℕ
-left_in_cut line =
-    if starts_with nat_eq (codes "results") line then 0 else left_of (event_at line)
+-- the line is bad in this column, if no line feed ends it
+abbrev pub IsCutAt : List ℕ → ℕ → Type 0
+IsCutAt line column = (LacksEnd line × (column ≡ length line + 1))
+    ⊎ ((LacksEnd line → ⊥) × IsBad line column)
 
 -- no line feed ends the first line: it is bad in this column
 pub record IsCutLine (bytes : List ℕ) (column : ℕ) : Type 0 where
   pub whole : HasNoFeed bytes
-  pub bad : column + left_in_cut bytes ≡ length bytes + 1
+  pub bad : IsCutAt bytes column
 
 abbrev pub IsBadFirst : List ℕ → ℕ → Type 0
 IsBadFirst bytes column = IsBadLine bytes column ⊎ IsCutLine bytes column

@@ -14,10 +14,6 @@ fn multiple(alloc: Global, by: i128, variable: u32, rest: i128) -> Result<Term, 
         .add(&Term::constant(alloc, rest))
 }
 
-fn and(alloc: Global, left: Formula, right: Formula) -> Result<Formula, AllocError> {
-    Ok(Formula::And(Boxed::new(alloc, left)?, Boxed::new(alloc, right)?))
-}
-
 fn rows(alloc: Global, steps: &[RowStep]) -> Result<Refutation, AllocError> {
     let mut list = StepList::new(alloc);
     for step in steps {
@@ -77,7 +73,7 @@ fn cases_are_closed_on_both_sides(rt: HostRuntime) -> Result<(), Fail> {
         Formula::Le(multiple(alloc, 1, 0, 0)?),
         Formula::Le(multiple(alloc, -1, 0, 0)?),
     )?;
-    let formula = and(alloc, Formula::Ne(multiple(alloc, 1, 0, 0)?), bounds)?;
+    let formula = Formula::and(alloc, Formula::Ne(multiple(alloc, 1, 0, 0)?), bounds)?;
     for closed in [true, false] {
         let below = sum(alloc, RowStep::Given { at: 0 }, RowStep::Given { at: 2 }, 1)?;
         let above = if closed {

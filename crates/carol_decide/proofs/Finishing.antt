@@ -10,12 +10,12 @@ use Rattle.carol_cert.specs.Counts.{turns_of, has_gap, GoesRight}
 use Rattle.carol_elimination.specs.Due.{BranchesAreDue}
 use Rattle.carol_decide.specs.Sizes.{OfDifferences, AreOfDifferences}
 use Rattle.carol_decide.specs.Finished.{IsFinished, IsOpen}
-use Rattle.carol_decide.specs.Frames.{TakesParts, TakesLow, TakesHigh}
+use Rattle.carol_decide.specs.Frames.{TakesJoined, TakesLow, TakesHigh}
 use Rattle.carol_decide.proofs.Lists.{Each-set, Each-at, Each-push}
 use Rattle.carol_decide.proofs.Way.{cases_in_positive, cases_parts, cases_sides, differences_inherited, there_parts, there_sides}
 
 -- what holds of a pair holds where the pair is there
-at_parts : (claims : List Claim) (at : ℕ) (whole : Claim) (next : List Claim) (N : Type 0) (P : List Claim → Type 0) (t : TakesParts claims at whole next) → P next → MatchOption (parts_at claims at) N (λ p. P (slice_set claims at p.0 ++ p.1 ∷ []))
+at_parts : (claims : List Claim) (at : ℕ) (whole : Claim) (next : List Claim) (N : Type 0) (P : List Claim → Type 0) (t : TakesJoined claims at whole next) → P next → MatchOption (parts_at claims at) N (λ p. P (slice_set claims at p.0 ++ p.1 ∷ []))
 at_parts claims at whole next N P t h =
     subst (λ o. MatchOption o N (λ p. P (slice_set claims at p.0 ++ p.1 ∷ []))) (sym (there_parts claims at whole t.parts t.stands t.are_parts)) (subst P t.is h)
 
@@ -25,12 +25,12 @@ at_sides claims at whole p N P Q stands e x y =
 
 -- ---- finished trees
 
-differences_parts : (claims : List Claim) (at : ℕ) (whole : Claim) (next : List Claim) → TakesParts claims at whole next → AreOfDifferences claims → AreOfDifferences next
+differences_parts : (claims : List Claim) (at : ℕ) (whole : Claim) (next : List Claim) → TakesJoined claims at whole next → AreOfDifferences claims → AreOfDifferences next
 differences_parts claims at whole next t d =
     let both = differences_inherited.parts whole t.parts t.are_parts (Each-at OfDifferences claims at whole t.stands d) in
     subst AreOfDifferences (sym t.is) (Each-push OfDifferences (slice_set claims at t.parts.0) t.parts.1 (Each-set OfDifferences claims at t.parts.0 d both.0) both.1)
 
-pub finished_parts : (claims : List Claim) (at : ℕ) (whole : Claim) (next : List Claim) (tree : Proof) → TakesParts claims at whole next → IsFinished next tree → IsFinished claims (Part at tree)
+pub finished_parts : (claims : List Claim) (at : ℕ) (whole : Claim) (next : List Claim) (tree : Proof) → TakesJoined claims at whole next → IsFinished next tree → IsFinished claims (Part at tree)
 finished_parts claims at whole next tree t h = record {
   refutes = at_parts claims at whole next ⊥ (Refutes tree) t h.refutes;
   due = at_parts claims at whole next (Unit {0}) (BranchesAreDue tree) t h.due;
@@ -91,7 +91,7 @@ goes_right Unclosed claims h = absurd h
 pub open_none : (claims : List Claim) → IsOpen claims Unclosed
 open_none claims = record { unfinished = (tt, refl); due = tt }
 
-pub open_parts : (claims : List Claim) (at : ℕ) (whole : Claim) (next : List Claim) (tree : Proof) → TakesParts claims at whole next → IsOpen next tree → IsOpen claims (Part at tree)
+pub open_parts : (claims : List Claim) (at : ℕ) (whole : Claim) (next : List Claim) (tree : Proof) → TakesJoined claims at whole next → IsOpen next tree → IsOpen claims (Part at tree)
 open_parts claims at whole next tree t h = record {
   unfinished = (at_parts claims at whole next ⊥ (GoesRight tree) t h.unfinished.0, h.unfinished.1);
   due = at_parts claims at whole next (Unit {0}) (BranchesAreDue tree) t h.due;

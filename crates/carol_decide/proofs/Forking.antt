@@ -9,7 +9,8 @@ use Rattle.carol_formula.specs.Claim.{Claim, True, False, Le, Eq, Ne, And, Or, N
 use Rattle.carol_cert.specs.Refutes.{parts_of, sides_of}
 use Rattle.carol_cert.specs.Cases.{below_zero, above_zero}
 use Rattle.carol_difference.specs.Rows.{IsUnit, AreOpposite, AreDifference}
-use Rattle.carol_decide.specs.Sizes.{nodes_of, weight_of, OfDifferences, IsReady}
+use Rattle.carol_decide.specs.Sizes.{weight_of, OfDifferences, IsReady}
+use Rattle.carol_formula.specs.Size.{nodes_of}
 use Rattle.carol_decide.specs.Makes.{Makes}
 
 -- ---- weights and cases

@@ -11,7 +11,8 @@ use Rattle.carol_cert.specs.Proof.{Proof, Absurd, Part, Split, Unclosed, proof_o
 use Rattle.carol_cert.specs.Refutes.{parts_of, sides_of}
 use Rattle.carol_cert.specs.Counts.{turns_of}
 use Rattle.carol_linear.specs.Answer.{IsSpent}
-use Rattle.carol_decide.specs.Sizes.{nodes_of, weight_of, weight_in, OfDifferences, AreOfDifferences, AreReady}
+use Rattle.carol_decide.specs.Sizes.{weight_of, weight_in, OfDifferences, AreOfDifferences, AreReady}
+use Rattle.carol_formula.specs.Size.{nodes_of}
 use Rattle.carol_decide.specs.Finished.{IsFinished, IsOpen}
 use Rattle.carol_decide.specs.Piece.{claim_of_piece, claims_in}
 use Rattle.carol_decide.specs.Frames.{StandsAt, TakesHigh, Takes, Lead, frame_turns, turns_on}

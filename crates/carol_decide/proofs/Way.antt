@@ -11,7 +11,7 @@ use Rattle.carol_decide.specs.Makes.{Makes, MakesAll}
 use Rattle.carol_decide.specs.Case as case
 use Rattle.carol_decide.specs.Case.{Becomes, IsCaseOf}
 use Rattle.carol_decide.specs.Piece.{claim_of_piece}
-use Rattle.carol_decide.specs.Frames.{TakesParts, Takes, Lead, frame_turns, turns_on}
+use Rattle.carol_decide.specs.Frames.{TakesJoined, Takes, Lead, frame_turns, turns_on}
 use Rattle.carol_decide.specs.declared.frame.Frame.{Frame}
 use Rattle.carol_decide.specs.declared.frame.Frame.TheVariants.{Parts, Low, High}
 use Rattle.carol_decide.proofs.Forking.{have_parts, have_sides, cases_positive}
@@ -110,7 +110,7 @@ cases_in_positive (c ∷ claims) = mul-pos (cases_positive c) (cases_in_positive
 product_of_parts : (a b n : ℕ) → a * n * b ≡ a * b * n
 product_of_parts a b n = mul_assoc a n b ∙ ap (λ k. a * k) (mul_comm n b) ∙ sym (mul_assoc a b n)
 
-pub cases_parts : (claims : List Claim) (at : ℕ) (whole : Claim) (next : List Claim) → TakesParts claims at whole next → cases_in next ≡ cases_in claims
+pub cases_parts : (claims : List Claim) (at : ℕ) (whole : Claim) (next : List Claim) → TakesJoined claims at whole next → cases_in next ≡ cases_in claims
 cases_parts claims at whole next t =
     let o = others claims at whole t.stands in
     ap cases_in t.is ∙ cases_in-push (slice_set claims at t.parts.0) t.parts.1 ∙ ap (λ n. n * cases_of t.parts.1) (o.replaced t.parts.0)

@@ -9,6 +9,7 @@ use Rattle.carol_elimination.specs.Due.{rows_at}
 use Rattle.carol_linear.specs.Answer.{IsSpent, IsWide, IsFar}
 use Rattle.carol_linear.specs.declared.answer.Wide.{Wide as WideReason}
 use Rattle.carol_linear.specs.declared.answer.Far.{Far as FarReason}
+use Rattle.carol_decide.specs.declared.answer.TheConstants.{MOST_LEAVES}
 use Rattle.carol_decide.specs.declared.answer.Answer.{Answer}
 use Rattle.carol_decide.specs.declared.answer.Answer.TheVariants.{Unsat, Sat, Undecided}
 use Rattle.carol_decide.specs.declared.answer.Why.{Why}
@@ -42,6 +43,12 @@ abbrev pub IsWhy : Claim → ℕ → Why → Type 0
 IsWhy claim leaves (Leaves tree) = IsSpent (claim ∷ []) leaves (proof_of tree)
 IsWhy claim leaves (Wide w) = IsWideCase claim w
 IsWhy claim leaves (Far f) = IsFarCase claim f
+
+-- the decision of a formula of a program ends for this reason; the formula isn't one of differences with
+-- few enough cases
+pub record IsStuck (claim : Claim) (why : Why) : Type 0 where
+  pub kept : IsWhy claim MOST_LEAVES why
+  pub beyond : OfDifferences claim → cases_of claim ≤ MOST_LEAVES → ⊥
 
 -- the answer is right for the formula and for so many turns
 abbrev pub IsAnswer : Claim → ℕ → Answer → Type 0

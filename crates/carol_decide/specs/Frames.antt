@@ -14,7 +14,7 @@ abbrev pub StandsAt : List Claim → ℕ → Claim → Type 0
 StandsAt claims at whole = slice_get claims at ≡ Some whole
 
 -- an `And` was taken apart
-pub record TakesParts (claims : List Claim) (at : ℕ) (whole : Claim) (next : List Claim) : Type 0 where
+pub record TakesJoined (claims : List Claim) (at : ℕ) (whole : Claim) (next : List Claim) : Type 0 where
   pub stands : StandsAt claims at whole
   pub parts : Claim × Claim
   pub are_parts : parts_of whole ≡ Some parts
@@ -37,7 +37,7 @@ pub record TakesHigh (claims : List Claim) (at : ℕ) (whole : Claim) (low : Pro
   pub is : next ≡ slice_set claims at sides.1
 
 abbrev pub Takes : List Claim → Frame → List Claim → Type 0
-Takes claims (Parts at whole) next = TakesParts claims at (claim_of_piece whole) next
+Takes claims (Parts at whole) next = TakesJoined claims at (claim_of_piece whole) next
 Takes claims (Low at whole other) next = TakesLow claims at (claim_of_piece whole) (claim_of_piece other) next
 Takes claims (High at whole low) next = TakesHigh claims at (claim_of_piece whole) (proof_of low) next
 

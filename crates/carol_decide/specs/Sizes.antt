@@ -10,17 +10,6 @@ abbrev pub Each : (Claim → Type 0) → List Claim → Type 0
 Each P [] = Unit {0}
 Each P (c ∷ claims) = P c × Each P claims
 
--- how many nodes a formula has
-abbrev pub nodes_of : Claim → ℕ
-nodes_of True = 1
-nodes_of False = 1
-nodes_of (Le t) = 1
-nodes_of (Eq t) = 1
-nodes_of (Ne t) = 1
-nodes_of (And a b) = nodes_of a + nodes_of b + 1
-nodes_of (Or a b) = nodes_of a + nodes_of b + 1
-nodes_of (Not a) = nodes_of a + 1
-
 -- how much there is to take apart: a `Ne` has two cases to become
 abbrev pub weight_of : Claim → ℕ
 weight_of True = 1

@@ -2,6 +2,9 @@ use carol_cert::Refutation;
 use carol_formula::Valuation;
 use carol_linear::{Far, Wide};
 
+/// How many turns the decision of a formula of a program may take.
+pub const MOST_LEAVES: u32 = 20_000;
+
 /// Why a formula stays undecided.
 #[derive(Debug, Drop)]
 pub enum Why {

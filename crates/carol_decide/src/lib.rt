@@ -8,7 +8,7 @@ ghost use Rattle.std.specs.Prelude.{◌≤◌, IfOk};
 ghost use Rattle.carol_formula.specs.Bounds.{narrow_limit};
 ghost use Rattle.carol_formula.specs.Claim.{HasNoNot, ClaimWithin};
 ghost use Rattle.carol_formula.specs.Tree.{claim_of};
-ghost use Rattle.carol_decide.specs.Sizes.{nodes_of};
+ghost use Rattle.carol_formula.specs.Size.{nodes_of};
 ghost use Rattle.carol_decide.specs.Answer.{IsAnswer, Settles};
 
 mod answer;
@@ -25,7 +25,7 @@ mod walk;
 
 use crate::tested::tested;
 use crate::walk::Walk;
-pub use answer::{Answer, Why};
+pub use answer::{Answer, MOST_LEAVES, Why};
 use carol_formula::Formula;
 pub use fitting::can_decide;
 use std::alloc::{AllocError, Global};

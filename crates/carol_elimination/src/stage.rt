@@ -1,4 +1,4 @@
-ghost use Rattle.std.specs.Prelude.{◌≡◌, ◌<◌, ◌↔◌, [], ◌∷◌, length, IsTrue, List, OnOk};
+ghost use Rattle.std.specs.Prelude.{◌≡◌, ◌<◌, [], ◌∷◌, length, IsTrue, List, OnOk};
 ghost use Rattle.carol_formula.specs.Linear.{Linear};
 ghost use Rattle.carol_elimination.specs.Tightened.{tightened};
 ghost use Rattle.carol_elimination.specs.Derived.{AreDerived};
@@ -9,7 +9,7 @@ ghost use Rattle.carol_elimination.specs.Extends.{Extend, IsVerdict, IsKnown, pl
 use crate::arena::Arena;
 use crate::combination::content;
 use carol_cert::RowStep;
-use carol_formula::{Term, Variable};
+use carol_formula::{Term, Variable, is_same};
 use std::alloc::{AllocError, Global};
 use std::collections::BTreeMap;
 
@@ -60,13 +60,6 @@ fn key_of(row: &Term) -> u64 {
         key = mixed(key, product);
     }
     key
-}
-
-// Whether the products are equal.
-fn is_same(one: &(Variable, i128), other: &(Variable, i128)) -> bool
-    ensures { IsTrue result ↔ (one.now ≡ other.now) }
-{
-    one.0 == other.0 && one.1 == other.1
 }
 
 // Whether the rows have the same coefficients.

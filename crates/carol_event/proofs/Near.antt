@@ -222,3 +222,10 @@ unfolding Near
 bad_near line bad e =
     let near : Near {X = Event} none 908 line (Err bad) = rw e at (event_near line)
     in (near.0, omega (arith, near.1))
+
+-- an event's line is short
+pub event_short : (line : List ℕ) (event : Event) → event_at line ≡ Ok event → length line ≤ 908
+unfolding Near none
+event_short line event e =
+    let near : Near {X = Event} none 908 line (Ok event) = rw e at (event_near line)
+    in omega (arith, near.1)

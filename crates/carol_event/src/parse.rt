@@ -21,6 +21,7 @@ use std::alloc::Global;
 /// answered.
 pub fn parse_event(alloc: Global, line: &[u8]) -> Result<Event, LineError>
     ensures found { IfOk result (λ event. line.now ≡ event_text event) }
+    ensures numbers { IfOk result HasNumbers }
     ensures only { (event : EventData) → HasNumbers event → line.now ≡ event_text event
         → IsOkAnd result (λ x. x ≡ event) }
 

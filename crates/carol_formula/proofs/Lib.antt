@@ -8,6 +8,7 @@ pub mod Summing
 pub mod Replacing
 pub mod Division
 pub mod Weights
+pub mod Light
 pub mod Claims
 pub mod Places
 pub mod NamedWeights

@@ -5,6 +5,7 @@ pub mod Weight
 pub mod Value
 pub mod Division
 pub mod Claim
+pub mod Size
 pub mod Numbers
 pub mod Tree
 pub mod Named

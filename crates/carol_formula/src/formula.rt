@@ -1,8 +1,9 @@
-ghost use Rattle.std.specs.Prelude.{ℕ, ℤ, ◌≡◌, ◌≤◌, ◌<◌, ◌+◌, ◌*◌, min, true, false, not, IsTrue, ◌↔◌, IfOk, pos, if◌then◌else◌};
+ghost use Rattle.std.specs.Prelude.{ℕ, ℤ, ◌≡◌, ◌≤◌, ◌<◌, ◌+◌, ◌*◌, ◌^◌, min, true, false, not, IsTrue, ◌↔◌, IfOk, pos, if◌then◌else◌};
 ghost use Rattle.carol_formula.specs.Bounds.{term_limit, narrow_limit};
 ghost use Rattle.carol_formula.specs.Claim as claim;
 ghost use Rattle.carol_formula.specs.Claim.{truth, ClaimFits, ClaimWithin, HasNoNot, with_term, without_not, cases_of};
 ghost use Rattle.carol_formula.specs.Linear.{IsWithin, constant_of, difference_of, replaced};
+ghost use Rattle.carol_formula.specs.Size.{nodes_of};
 ghost use Rattle.carol_formula.specs.Tree.{claim_of, comparing, rank_of};
 ghost use Rattle.carol_formula.specs.Value.{value_at, set_at};
 
@@ -230,6 +231,46 @@ impl Formula {
                 junction(alloc, !is_positive, left, right)
             }
             Formula::Not(inner) => inner.get().signed_form(alloc, !is_positive),
+        }
+    }
+
+    /// Both formulas.
+    pub fn and(alloc: Global, left: Formula, right: Formula) -> Result<Formula, AllocError>
+        ensures { IfOk result (λ f. claim_of f ≡ claim.And (claim_of left) (claim_of right)) }
+    {
+        let left = Boxed::new(alloc, left)?;
+        let right = Boxed::new(alloc, right)?;
+        Ok(Formula::And(left, right))
+    }
+
+    /// One of the formulas.
+    pub fn or(alloc: Global, left: Formula, right: Formula) -> Result<Formula, AllocError>
+        ensures { IfOk result (λ f. claim_of f ≡ claim.Or (claim_of left) (claim_of right)) }
+    {
+        let left = Boxed::new(alloc, left)?;
+        let right = Boxed::new(alloc, right)?;
+        Ok(Formula::Or(left, right))
+    }
+
+    /// The denial of a formula.
+    pub fn not(alloc: Global, formula: Formula) -> Result<Formula, AllocError>
+        ensures { IfOk result (λ f. claim_of f ≡ claim.Not (claim_of formula)) }
+    {
+        let inner = Boxed::new(alloc, formula)?;
+        Ok(Formula::Not(inner))
+    }
+
+    /// How many nodes the formula has, a comparison counted as one.
+    pub fn nodes(&self) -> u32
+        requires { nodes_of (claim_of self.now) < 2 ^ 32 }
+        ensures { result ≡ nodes_of (claim_of self.now) }
+    {
+        match self {
+            Formula::And(one, other) | Formula::Or(one, other) => one.get().nodes()
+                + other.get().nodes()
+                + 1,
+            Formula::Not(inner) => inner.get().nodes() + 1,
+            _ => 1,
         }
     }
 

@@ -21,5 +21,5 @@ pub use number::{
     NARROW_LIMIT, ROW_LIMIT, TERM_LIMIT, VALUE_LIMIT, is_below, product_within, sum_within,
 };
 pub use renaming::{Naming, plus, renamed, renamed_term};
-pub use term::{Row, Term, TermError};
+pub use term::{Row, Term, TermError, is_same};
 pub use variable::{Lookup, Valuation, Variable};

@@ -54,6 +54,13 @@ impl From<AllocError> for TermError {
     }
 }
 
+/// Whether the products of variables and coefficients are equal.
+pub fn is_same(one: &(Variable, i128), other: &(Variable, i128)) -> bool
+    ensures { IsTrue result ↔ (one.now ≡ other.now) }
+{
+    one.0 == other.0 && one.1 == other.1
+}
+
 // Appends a product, unless its coefficient is zero.
 fn keep(out: &mut Vec<(Variable, i128)>, product: (Variable, i128)) -> Result<(), AllocError>
     ensures { OnOk result (out.new.items ≡ out.old.items ++ kept product.0 product.1 []) }

@@ -1,4 +1,3 @@
-use crate::boxed::Boxed;
 use crate::formula::Formula;
 use crate::number::NARROW_LIMIT;
 use crate::term::{Term, TermError};
@@ -45,18 +44,6 @@ fn at_most_zero(alloc: Global, v: u32) -> Result<Formula, AllocError> {
 
 fn is_not_zero(alloc: Global, v: u32) -> Result<Formula, AllocError> {
     Ok(Formula::Ne(Term::variable(alloc, Variable(v))?))
-}
-
-fn both(alloc: Global, left: Formula, right: Formula) -> Result<Formula, AllocError> {
-    Ok(Formula::And(Boxed::new(alloc, left)?, Boxed::new(alloc, right)?))
-}
-
-fn either(alloc: Global, left: Formula, right: Formula) -> Result<Formula, AllocError> {
-    Ok(Formula::Or(Boxed::new(alloc, left)?, Boxed::new(alloc, right)?))
-}
-
-fn not(alloc: Global, inner: Formula) -> Result<Formula, AllocError> {
-    Ok(Formula::Not(Boxed::new(alloc, inner)?))
 }
 
 #[test]
@@ -129,7 +116,7 @@ fn a_term_is_put_in_under_a_denial(rt: HostRuntime) -> Result<(), Fail> {
     // 2 * 2^99 is too wide, and 2 * 2^99 - 1 is not.
     let t = term(alloc, [2, -1, 0], 0)?;
     let by = Term::variable(alloc, Variable(1))?.scale(1 << 99)?;
-    let denial = not(alloc, Formula::Le(t))?;
+    let denial = Formula::not(alloc, Formula::Le(t))?;
     let put_in = denial.substitute(alloc, Variable(0), &by)?;
     let here = at(alloc, -5, 1, 0)?;
     assert!(rt; denial.fits(&here) && put_in.fits(&here));
@@ -143,12 +130,12 @@ fn a_term_is_put_in_under_a_denial(rt: HostRuntime) -> Result<(), Fail> {
 #[test]
 fn a_denial_is_pushed_to_the_comparisons(rt: HostRuntime) -> Result<(), Fail> {
     let alloc = rt.alloc();
-    let some = either(
+    let some = Formula::or(
         alloc,
         is_not_zero(alloc, 1)?,
-        not(alloc, at_most_zero(alloc, 2)?)?,
+        Formula::not(alloc, at_most_zero(alloc, 2)?)?,
     )?;
-    let formula = not(alloc, both(alloc, at_most_zero(alloc, 0)?, some)?)?;
+    let formula = Formula::not(alloc, Formula::and(alloc, at_most_zero(alloc, 0)?, some)?)?;
     assert!(rt; formula.is_within(NARROW_LIMIT));
     let plain = formula.negation_form(alloc)?;
     // x > 0, or y is 0 and z <= 0
@@ -175,12 +162,12 @@ fn cases_are_counted_up_to_a_million(rt: HostRuntime) -> Result<(), Fail> {
     let alloc = rt.alloc();
     let mut formula = is_not_zero(alloc, 0)?;
     for _ in 1..19u32 {
-        formula = both(alloc, is_not_zero(alloc, 0)?, formula)?;
+        formula = Formula::and(alloc, is_not_zero(alloc, 0)?, formula)?;
     }
     assert_eq!(rt; formula.cases(), 524_288);
-    let more = either(alloc, formula.copy(alloc)?, at_most_zero(alloc, 1)?)?;
+    let more = Formula::or(alloc, formula.copy(alloc)?, at_most_zero(alloc, 1)?)?;
     assert_eq!(rt; more.cases(), 524_289);
-    let most = both(alloc, formula, more)?;
+    let most = Formula::and(alloc, formula, more)?;
     assert_eq!(rt; most.cases(), 1_000_001);
     Ok(())
 }
@@ -195,7 +182,7 @@ fn survives(
     assert!(rt; formula.fits(&here));
     assert!(rt; formula.holds(&here));
     assert!(rt; formula.is_within(NARROW_LIMIT));
-    let denied = not(alloc, formula.copy(alloc)?)?;
+    let denied = Formula::not(alloc, formula.copy(alloc)?)?;
     assert!(rt; denied.is_within(NARROW_LIMIT));
     let plain = denied.negation_form(alloc)?;
     assert!(rt; plain.fits(&here));
@@ -209,8 +196,8 @@ fn a_chain_may_be_deep(rt: HostRuntime) -> Result<(), Fail> {
     let mut right = at_most_zero(alloc, 0)?;
     let mut left = at_most_zero(alloc, 0)?;
     for _ in 0..4096u32 {
-        right = both(alloc, at_most_zero(alloc, 0)?, right)?;
-        left = both(alloc, left, at_most_zero(alloc, 0)?)?;
+        right = Formula::and(alloc, at_most_zero(alloc, 0)?, right)?;
+        left = Formula::and(alloc, left, at_most_zero(alloc, 0)?)?;
     }
     survives(&rt, alloc, right)?;
     survives(&rt, alloc, left)?;
@@ -223,10 +210,10 @@ fn a_tree_of_any_depth_is_dropped(rt: HostRuntime) -> Result<(), Fail> {
     let mut left = Formula::True;
     let mut right = Formula::False;
     for _ in 0..200_000u32 {
-        left = both(alloc, left, either(alloc, Formula::True, Formula::False)?)?;
-        right = either(alloc, both(alloc, Formula::True, Formula::False)?, right)?;
+        left = Formula::and(alloc, left, Formula::or(alloc, Formula::True, Formula::False)?)?;
+        right = Formula::or(alloc, Formula::and(alloc, Formula::True, Formula::False)?, right)?;
     }
-    let _both = both(alloc, left, right)?;
+    let _both = Formula::and(alloc, left, right)?;
     Ok(())
 }
 
@@ -236,7 +223,7 @@ fn a_tree_may_be_large(rt: HostRuntime) -> Result<(), Fail> {
     let mut tree = at_most_zero(alloc, 0)?;
     for _ in 0..15u32 {
         let twin = tree.copy(alloc)?;
-        tree = both(alloc, twin, tree)?;
+        tree = Formula::and(alloc, twin, tree)?;
     }
     survives(&rt, alloc, tree)?;
     Ok(())

@@ -3,15 +3,17 @@ use Rattle.std.proofs.Common.{◌≡◌, ◌≢◌, ℕ, ◌+◌, ◌<◌, ◌�
 use Rattle.std.specs.Prelude.{if◌then◌else◌, slice_get}
 use Rattle.std.proofs.lemmas.Bool.{cases_eq, eqb-true, false≢true, not-false}
 use Rattle.carol_store.specs.declared.direction.Direction.{Direction}
+use Rattle.carol_store.specs.declared.effect.Atom.{Atom}
+use Rattle.carol_store.specs.Directions.{directions}
 use Rattle.carol_program.specs.Accords.{Accords, entry_of}
-use Rattle.carol_program.specs.Admitting.{admits_all, is_yes}
+use Rattle.carol_program.specs.Admitting.{admits, admits_all, is_yes}
 use Rattle.carol_grant.specs.declared.row.Row.{Row}
 use Rattle.carol_grant.specs.declared.tally.Tally.{Tally}
 use Rattle.carol_grant.specs.Bars.{AreWays, is_bar}
 use Rattle.carol_grant.specs.Counts.{count_row, count_rows}
 use Rattle.carol_grant.specs.Kept.{IsRow, lacks_way, lives}
 use Rattle.carol_grant.specs.Tallies.{agrees, is_clear, tally_at}
-use Rattle.carol_grant.proofs.Ways.{lacks_way-is}
+use Rattle.carol_grant.proofs.Ways.{AreWays-directions, lacks_way-is}
 
 -- a way that is not lacking makes no difference
 pub admits_step : (accords : Accords) (guard : ℕ) (d : Direction) (ways : List Direction) → AreWays accords.kinds (d ∷ ways) → lacks_way accords d.cell d.up guard ≡ false → is_yes (entry_of accords guard d.cell d.up) ≡ true
@@ -35,16 +37,16 @@ granted-row (row ∷ rows) zero g h = refl
 granted-row (row ∷ rows) (suc s) g h = granted-row rows s g h
 
 -- the rows before this one have no bar, and this one has none or is the session's own
-pub scan_next : (accords : Accords) (rows : List Row) (ways : List Direction) (session t : ℕ) → ((s g : ℕ) → s < t → s ≢ session → get_or (get_or (lives rows) s []) g false ≡ true → admits_all accords g ways ≡ true) → ((g : ℕ) → t ≢ session → get_or (get_or (lives rows) t []) g false ≡ true → admits_all accords g ways ≡ true) → (s g : ℕ) → s < t + 1 → s ≢ session → get_or (get_or (lives rows) s []) g false ≡ true → admits_all accords g ways ≡ true
-scan_next accords rows ways session t before here s g low apart granted = elim (cases_eq s t) [
+pub scan_next : (accords : Accords) (rows : List Row) (effect : List Atom) (session t : ℕ) → ((s g : ℕ) → s < t → s ≢ session → get_or (get_or (lives rows) s []) g false ≡ true → admits accords g effect ≡ true) → ((g : ℕ) → t ≢ session → get_or (get_or (lives rows) t []) g false ≡ true → admits accords g effect ≡ true) → (s g : ℕ) → s < t + 1 → s ≢ session → get_or (get_or (lives rows) s []) g false ≡ true → admits accords g effect ≡ true
+scan_next accords rows effect session t before here s g low apart granted = elim (cases_eq s t) [
   | inl e ↦ here g (rw e at apart) (rw e at granted)
   | inr other ↦ before s g (omega arith) apart granted
 ]
 
 -- a row that was looked through
-pub scan_row : (accords : Accords) (rows : List Row) (ways : List Direction) (t : ℕ) (d : Row) → t < length rows → ((g : ℕ) → is_bar accords (get_or rows t d).live ways g ≡ false) → (g : ℕ) → get_or (get_or (lives rows) t []) g false ≡ true → admits_all accords g ways ≡ true
-scan_row accords rows ways t d inside none g granted =
-    not_barring (get_or (get_or rows t d).live g false) (admits_all accords g ways) (none g) (rw (lives-or rows t d inside) at granted)
+pub scan_row : (accords : Accords) (rows : List Row) (effect : List Atom) (t : ℕ) (d : Row) → t < length rows → ((g : ℕ) → is_bar accords (get_or rows t d).live effect g ≡ false) → (g : ℕ) → get_or (get_or (lives rows) t []) g false ≡ true → admits accords g effect ≡ true
+scan_row accords rows effect t d inside none g granted =
+    not_barring (get_or (get_or rows t d).live g false) (admits accords g effect) (none g) (rw (lives-or rows t d inside) at granted)
   where
     lives-or : (rows : List Row) (t : ℕ) (d : Row) → t < length rows → get_or (lives rows) t [] ≡ (get_or rows t d).live
     lives-or [] t d inside = absurd (omega arith)
@@ -99,9 +101,9 @@ clear_admits accords row (d ∷ ways) g is are clear granted =
     in let free = count_row-zero (lacks_way accords d.cell d.up) 0 row.live g g (omega arith) none granted
     in rw (admits_step accords g d ways are free) (clear_admits accords row ways g is are.1 tests.1 granted)
 
-pub clear-none : (accords : Accords) (row : Row) (ways : List Direction) (g : ℕ) → IsRow accords row → AreWays accords.kinds ways → is_clear row.tally ways ≡ true → is_bar accords row.live ways g ≡ false
-clear-none accords row ways g is are clear =
-    no_bar (get_or row.live g false) (admits_all accords g ways) (clear_admits accords row ways g is are clear)
+pub clear-none : (accords : Accords) (row : Row) (effect : List Atom) (g : ℕ) → IsRow accords row → is_clear row.tally (directions accords.kinds effect) ≡ true → is_bar accords row.live effect g ≡ false
+clear-none accords row effect g is clear =
+    no_bar (get_or row.live g false) (admits accords g effect) (clear_admits accords row (directions accords.kinds effect) g is (AreWays-directions accords.kinds effect) clear)
   where
     no_bar : (live admitted : Bool) → (live ≡ true → admitted ≡ true) → (live && not admitted) ≡ false
     no_bar true admitted h = rw (h refl) refl

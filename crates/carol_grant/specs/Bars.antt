@@ -2,17 +2,18 @@
 use Rattle.std.specs.Prelude.{◌≡◌, ℕ, ◌<◌, Bool, true, false, not, ◌&&◌, List, [], ◌∷◌, Option, Some, None, get_or}
 use Rattle.carol_store.specs.declared.shape.CellKind.{CellKind}
 use Rattle.carol_store.specs.declared.direction.Direction.{Direction}
+use Rattle.carol_store.specs.declared.effect.Atom.{Atom}
 use Rattle.carol_program.specs.Accords.{Accords, HasWay}
-use Rattle.carol_program.specs.Admitting.{admits_all}
+use Rattle.carol_program.specs.Admitting.{admits}
 
 -- the shape has each of the ways
 abbrev pub AreWays : List CellKind → List Direction → Type 0
 AreWays kinds [] = Unit {0}
 AreWays kinds (way ∷ ways) = HasWay kinds way.cell way.up × AreWays kinds ways
 
--- the guard is granted in the row, and its accord lacks one of the ways
-abbrev pub is_bar : Accords → List Bool → List Direction → ℕ → Bool
-is_bar accords live ways guard = get_or live guard false && not (admits_all accords guard ways)
+-- the guard is granted in the row, and its accord lacks the effect
+abbrev pub is_bar : Accords → List Bool → List Atom → ℕ → Bool
+is_bar accords live effect guard = get_or live guard false && not (admits accords guard effect)
 
 -- the first number that passes the test, if one does
 abbrev pub IsFirst : (ℕ → Bool) → Option ℕ → Type 0

@@ -33,14 +33,13 @@ impl Model for Grants {
 impl Grants {
     ghost use Rattle.std.specs.Prelude.{Bool, slice_index_or};
     ghost use Rattle.carol_program.specs.Accords.{HasWay};
-    ghost use Rattle.carol_program.specs.Admitting.{admits_all};
     ghost use Rattle.carol_store.specs.Effects.{IsEffect};
-    ghost use Rattle.carol_grant.specs.Bars.{AreWays, IsFirst, is_bar};
+    ghost use Rattle.carol_store.specs.Directions.{directions};
+    ghost use Rattle.carol_grant.specs.Bars.{IsFirst, is_bar};
     ghost use Rattle.carol_grant.specs.Grants.{
       Closes,
       GrantsOne,
       IsBarredBy,
-      IsLowest,
       bars,
       is_granted,
     };
@@ -134,19 +133,20 @@ impl Grants {
         if own.agrees(&self.total, ways) {
             return None;
         }
-        self.first_bar(session, ways)
+        self.first_bar(session, effect, ways)
     }
 
-    // The lowest live grant of another session whose accord lacks one of the ways.
-    fn first_bar(&self, session: u32, ways: &[Direction]) -> Option<(u32, u32)>
-        requires ways { AreWays self.now.accords.kinds ways.now }
+    // The lowest live grant of another session whose accord lacks the effect, whose ways these are.
+    fn first_bar(&self, session: u32, effect: &Effect, ways: &[Direction]) -> Option<(u32, u32)>
+        requires effect { IsEffect self.now.accords.kinds effect.now }
+        requires ways { ways.now ≡ directions self.now.accords.kinds effect.now }
         requires cells { AreCells ways.now }
-        ensures { IsLowest self.now session (λ g. admits_all self.now.accords g ways.now) result }
+        ensures { IsBarredBy self.now session effect.now result }
     {
         for (holder, row) in self.rows.iter().enumerate() {
             let holder = holder as u32;
             if holder != session {
-                if let Some(guard) = self.first_lacking(row, ways) {
+                if let Some(guard) = self.first_lacking(row, effect, ways) {
                     return Some((holder, guard));
                 }
             }
@@ -154,48 +154,33 @@ impl Grants {
         None
     }
 
-    // The lowest guard granted in the row whose accord lacks one of the ways.
-    fn first_lacking(&self, row: &Row, ways: &[Direction]) -> Option<u32>
+    // The lowest guard granted in the row whose accord lacks the effect, whose ways these are.
+    fn first_lacking(&self, row: &Row, effect: &Effect, ways: &[Direction]) -> Option<u32>
         requires row { IsRow self.now.accords row.now }
-        requires ways { AreWays self.now.accords.kinds ways.now }
+        requires effect { IsEffect self.now.accords.kinds effect.now }
+        requires ways { ways.now ≡ directions self.now.accords.kinds effect.now }
         requires cells { AreCells ways.now }
-        ensures { IsFirst (is_bar self.now.accords row.now.live ways.now) result }
+        ensures { IsFirst (is_bar self.now.accords row.now.live effect.now) result }
     {
         if row.tally.is_clear(ways) {
             return None;
         }
         for guard in 0..self.guards {
-            if self.is_bar(&row.live, guard, ways) {
+            if self.is_bar(&row.live, guard, effect) {
                 return Some(guard);
             }
         }
         None
     }
 
-    // Whether the guard is granted in the row, and its accord lacks one of the ways.
-    fn is_bar(&self, live: &[bool], guard: u32, ways: &[Direction]) -> bool
-        requires ways { AreWays self.now.accords.kinds ways.now }
+    // Whether the guard is granted in the row, and its accord lacks the effect.
+    fn is_bar(&self, live: &[bool], guard: u32, effect: &Effect) -> bool
+        requires effect { IsEffect self.now.accords.kinds effect.now }
         requires wide { guard < length live.now }
         requires guard { guard < self.now.accords.guards }
-        ensures { result ≡ is_bar self.now.accords live.now ways.now guard }
+        ensures { result ≡ is_bar self.now.accords live.now effect.now guard }
     {
-        live[guard as usize] && !self.admits(guard, ways)
-    }
-
-    // Whether the guard's accord has all of the ways.
-    fn admits(&self, guard: u32, ways: &[Direction]) -> bool
-        requires ways { AreWays self.now.accords.kinds ways.now }
-        requires guard { guard < self.now.accords.guards }
-        ensures { result ≡ admits_all self.now.accords guard ways.now }
-    {
-        let mut left = ways;
-        while let Some((way, more)) = left.split_first() {
-            if self.lacks(guard, way.cell, way.up) {
-                return false;
-            }
-            left = more;
-        }
-        true
+        live[guard as usize] && !self.accords.admits(&self.shape, guard, effect)
     }
 
     // Which ways the guard's accord lacks.

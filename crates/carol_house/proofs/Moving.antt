@@ -5,18 +5,22 @@ use Rattle.carol_program.specs.Rules.{rules_in}
 use Rattle.carol_program.specs.declared.scenes.Scene.{Scene}
 use Rattle.carol_reading.specs.Kept.{Kept}
 use Rattle.carol_event.specs.declared.event.Event.{Event}
+use Rattle.carol_event.specs.declared.event.Event.TheVariants as event
 use Rattle.carol_history.specs.Legal.{Legal}
 use Rattle.carol_history.specs.Links.{is_linked}
 use Rattle.carol_house.specs.declared.error.HouseError.{HouseError}
 use Rattle.carol_house.specs.declared.error.HouseError.TheVariants as error
 use Rattle.carol_house.specs.House.{House, Rests, rules_of}
-use Rattle.carol_house.specs.Moves.{CanGossip, FailsToGossip, FailsToLink}
-use Rattle.carol_house.specs.Nexts.{IsMissing}
+use Rattle.carol_house.specs.declared.moved.Gossip.TheVariants as gossip
+use Rattle.carol_house.specs.Moves.{CanGossip, FailsToGossip, FailsToLink, Offers}
 
--- where an entry is missing there is one to pass on
-pub can_gossip : (h : House) (source target entry : ℕ) → is_linked source target h.history ≡ true → IsMissing h.scene source target (Some entry) h.history → CanGossip h source target
-can_gossip h source target entry linked missing = (linked, λ nothing. clash (sym (nothing entry missing.0 missing.1) ∙ missing.2))
+-- where an entry is to be delivered, one can be
+pub can_gossip : (h : House) (source target entry : ℕ) → Offers h source target (gossip.Delivered entry) → CanGossip h source target
+can_gossip h source target entry (brings, inside) = (brings.may.linked, λ nothing. clash (sym (nothing brings.entry (rw same inside) brings.may.held) ∙ brings.may.lacking))
   where
+    same : brings.entry ≡ entry
+    same = let is : event.Deliver source target entry ≡ event.Deliver source target brings.entry = brings.is in cc
+
     clash : true ≡ false → ⊥
     clash e = cc
 

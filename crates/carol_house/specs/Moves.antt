@@ -56,11 +56,12 @@ abbrev pub HasNothingNew : House → ℕ → ℕ → Type 0
 HasNothingNew house source target =
     HoldsAllBelow house.scene source target (length (journal house.history)) house.history
 
--- the lowest entry that the one replica holds and the other lacks is to be delivered; or there is
--- none, or the two are not linked
+-- the lowest entry of the journal that the one replica holds and the other lacks is to be
+-- delivered; or there is none, or the two are not linked
 abbrev pub Offers : House → ℕ → ℕ → Gossip → Type 0
 Offers house source target (gossip.Delivered entry) =
     IsGossip house.scene source target (event.Deliver source target entry) house.history
+    × (entry < length (journal house.history))
 Offers house source target gossip.NothingNew =
     (is_linked source target house.history ≡ true) × HasNothingNew house source target
 Offers house source target gossip.CutOff = is_linked source target house.history ≡ false

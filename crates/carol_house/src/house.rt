@@ -21,6 +21,9 @@ mod enter;
 mod moves;
 mod next;
 
+pub use enter::link_event;
+pub use moves::kind_of;
+
 /// An accepted program in a scene, with its history so far. Contracts see it as the program with
 /// its accords, the scene, the history, the latest event first, and for how many more events there
 /// is room.

@@ -13,5 +13,5 @@ mod tables;
 
 pub use carol_history::MOST_EVENTS;
 pub use error::HouseError;
-pub use house::House;
+pub use house::{House, kind_of, link_event};
 pub use moved::{Admitted, Gossip, Moved};

@@ -1,4 +1,4 @@
-ghost use Rattle.std.specs.Prelude.{◌≡◌, [], ◌++◌, ◌∷◌, OnOk, OnErr};
+ghost use Rattle.std.specs.Prelude.{◌≡◌, [], ◌++◌, ◌∷◌, OnOk, OnErr, MatchOption};
 
 use carol_cert::{Refutation, StepList};
 use carol_formula::{Row, Valuation, Variable};
@@ -37,6 +37,14 @@ impl RowList {
     {
         self.rows.push(row)?;
         Ok(())
+    }
+
+    /// Takes the last row out, if there is one.
+    pub fn pop(&mut self) -> Option<Row>
+        ensures { MatchOption result ((self.old ≡ []) × (self.new ≡ []))
+            (λ last. self.old ≡ self.new ++ last ∷ []) }
+    {
+        self.rows.pop()
     }
 
     /// The rows in order.

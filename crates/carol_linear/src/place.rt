@@ -5,7 +5,7 @@ ghost use Rattle.carol_elimination.specs.Entries.{terms_of};
 ghost use Rattle.carol_linear.specs.Near.{Adds, rows_back, names_back};
 
 use carol_cert::RowStep;
-use carol_formula::{Row, Variable};
+use carol_formula::{Row, is_same};
 use std::alloc::{AllocError, Global};
 use std::mem;
 
@@ -22,13 +22,6 @@ pub struct Covered {
 pub struct Place {
     pub rows: Vec<Row>,
     pub names: Vec<RowStep>,
-}
-
-// Whether the products are equal.
-fn is_same(one: &(Variable, i128), other: &(Variable, i128)) -> bool
-    ensures { IsTrue result ↔ (one.now ≡ other.now) }
-{
-    one.0 == other.0 && one.1 == other.1
 }
 
 // Whether the rows bound one variable from the same side, the first one at least as tightly.

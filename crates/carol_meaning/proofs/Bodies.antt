@@ -9,7 +9,7 @@ use Rattle.carol_syntax.specs.declared.bodies.Statement.{Statement}
 use Rattle.carol_syntax.specs.declared.bodies.Statement.TheVariants as statement
 use Rattle.carol_syntax.specs.Bodies.{BodyTree, Return, If}
 use Rattle.carol_syntax.specs.Shape.{IsStatement, IsBody}
-use Rattle.carol_syntax.specs.Size.{HasSizedParts}
+use Rattle.carol_meaning.specs.Sizes.{HasShortParts}
 use Rattle.carol_program.specs.Limits.{most_cells, most_queries}
 use Rattle.carol_program.specs.Variables.{AreAmong, body_variables}
 use Rattle.carol_program.specs.Bodies as body
@@ -100,7 +100,7 @@ module _ (around : Around) (params : ℕ) (few : length (flat_map kinds_in aroun
         chain-fits ss (passed around at (statement.Issue atoms)) slots last place (second-none (issue_faults around at [] atoms) _ none) shape.1 room fits,
       )
 
-  pub body-fits : (b : BodyTree) (at : Point) (slots : List ℕ) → IsPlace cells params slots at.scope → body_faults around at b ≡ [] → IsBody b → HasSizedParts b → at.slot + length (queries_of b) ≤ most_queries → IsFitBody setting slots (body_meaning around at b)
+  pub body-fits : (b : BodyTree) (at : Point) (slots : List ℕ) → IsPlace cells params slots at.scope → body_faults around at b ≡ [] → IsBody b → HasShortParts b → at.slot + length (queries_of b) ≤ most_queries → IsFitBody setting slots (body_meaning around at b)
   body-fits (Return plain value) at slots place none shape sized room =
       let end = behind around at plain in
       chain-fits plain at slots (body.Return end.number (term_meaning (in_body around end) value)) place (search no_part) shape.0 room

@@ -23,7 +23,7 @@ use Rattle.carol_meaning.specs.declared.named.Named.{Named}
 use Rattle.carol_meaning.specs.declared.named.Named.TheVariants.{Cell, Members, Missing, Misused}
 use Rattle.carol_meaning.specs.Declarations.{too_many, place_from, place_of}
 use Rattle.carol_meaning.specs.Cells.{kind_of, name_of, cell_names, member, field_kind_at, field, inside, named_after, named, kinds_in, starts_in, titles_in, dotted, cell_faults}
-use Rattle.carol_meaning.proofs.Lists.{no_part, few, either-way, same_lengths, at-left, at-right}
+use Rattle.carol_meaning.proofs.Lists.{no_part, few, All-append, All-map, either-way, same_lengths, at-left, at-right}
 
 -- ---- what a path names
 
@@ -127,7 +127,11 @@ cell-titles ds = same_lengths titles_in kinds_in titles-kinds ds
 
 -- a set's or a record's name, and one inside it
 dotted-short : (group i : Ident) → IsName group → IsName i → length (dotted group i) ≤ longest_path
-dotted-short group i h k = omega (arith, length-append group.word (codes "." ++ i.word), length-append (codes ".") i.word, h.1, k.1)
+dotted-short group i h k =
+    let whole : length (dotted group i) ≡ length (group.word ++ codes ".") + length i.word = length-append (group.word ++ codes ".") i.word in
+    let rest : length (group.word ++ codes ".") ≡ length group.word + length (codes ".") = length-append group.word (codes ".") in
+    let point : length (codes ".") ≡ 1 = refl in
+    omega (arith, whole, rest, point, h.1, k.1)
 
 abbrev AreShortPaths : List (List ℕ) → Type 0
 AreShortPaths names = AllByRecursion (λ name. length name ≤ longest_path) names

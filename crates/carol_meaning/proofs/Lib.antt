@@ -9,3 +9,4 @@ pub mod Orders
 pub mod Bodies
 pub mod Operations
 pub mod Programs
+pub mod ShortLaws

@@ -43,6 +43,10 @@ pub All-append : {A : Type 0} (P : A → Type 0) (xs ys : List A) → AllByRecur
 All-append P [] ys a b = b
 All-append P (x ∷ xs) ys a b = (a.0, All-append P xs ys a.1 b)
 
+pub All-each : {A : Type 0} (P Q : A → Type 0) → ((x : A) → P x → Q x) → (xs : List A) → AllByRecursion P xs → AllByRecursion Q xs
+All-each P Q step [] a = tt
+All-each P Q step (x ∷ xs) a = (step x a.0, All-each P Q step xs a.1)
+
 pub All-map : {A B : Type 0} (P : A → Type 0) (Q : B → Type 0) (f : A → B) → ((x : A) → P x → Q (f x)) → (xs : List A) → AllByRecursion P xs → AllByRecursion Q (map f xs)
 All-map P Q f step [] a = tt
 All-map P Q f step (x ∷ xs) a = (step x a.0, All-map P Q f step xs a.1)

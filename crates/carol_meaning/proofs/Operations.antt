@@ -10,7 +10,7 @@ use Rattle.carol_syntax.specs.declared.bodies.Statement.TheVariants as statement
 use Rattle.carol_syntax.specs.Bodies.{BodyTree, Return, If}
 use Rattle.carol_syntax.specs.Files.{NamedFormula, OpTree}
 use Rattle.carol_syntax.specs.Shape.{IsName, IsStatement, IsBody, IsNamed, IsOp}
-use Rattle.carol_syntax.specs.Size.{IsSizedNamed, IsSizedOp}
+use Rattle.carol_meaning.specs.Sizes.{IsShortNamed, IsShortOp}
 use Rattle.carol_program.specs.Limits.{longest_name, most_cells, most_params, most_queries}
 use Rattle.carol_program.specs.Variables.{param_variable, IsAmong, param_variables, outcome_variables, body_variables}
 use Rattle.carol_program.specs.WellFormed.{AreRefinements, IsOpOver, AreShort, IsCalled}
@@ -68,7 +68,7 @@ refinements-count : (around : Around) (n : ℕ) (scope : Scope) (ps : List Named
 refinements-count around n scope [] = refl
 refinements-count around n scope (p ∷ ps) = omega (arith, refinements-count around (n + 1) (declared p.name.word (Parameter n) scope) ps)
 
-refinements-over : (around : Around) (n : ℕ) (scope : Scope) (ps : List NamedFormula) → n + length ps ≤ most_params → AreMeaningsIn (param_variables n) (length (flat_map kinds_in around.cells)) scope → refinement_faults around n scope ps ≡ [] → AllByRecursion IsSizedNamed ps → AreRefinements n (refinements around n scope ps)
+refinements-over : (around : Around) (n : ℕ) (scope : Scope) (ps : List NamedFormula) → n + length ps ≤ most_params → AreMeaningsIn (param_variables n) (length (flat_map kinds_in around.cells)) scope → refinement_faults around n scope ps ≡ [] → AllByRecursion IsShortNamed ps → AreRefinements n (refinements around n scope ps)
 refinements-over around n scope [] room known none sized = tt
 refinements-over around n scope (p ∷ ps) room known none sized = (
   formula-over (param_variables (n + 1)) (params-narrow (n + 1) (omega (arith, room))) (in_scope around.cells false own) (scope-looks (param_variables (n + 1)) around.cells own known-own) p.formula sized.0 (search no_part),
@@ -84,7 +84,7 @@ refinements-over around n scope (p ∷ ps) room known none sized = (
 
 -- ---- the whole operation
 
-module _ (around : Around) (few-cells : length (flat_map kinds_in around.cells) ≤ most_cells) (o : OpTree) (shape : IsOp o) (sized : IsSizedOp o) (none : op_faults around o ≡ []) where
+module _ (around : Around) (few-cells : length (flat_map kinds_in around.cells) ≤ most_cells) (o : OpTree) (shape : IsOp o) (sized : IsShortOp o) (none : op_faults around o ≡ []) where
   abbrev cells : List CellKind
   cells = flat_map kinds_in around.cells
 
@@ -116,7 +116,7 @@ module _ (around : Around) (few-cells : length (flat_map kinds_in around.cells) 
   pub op-over : IsOpOver (flat_map kinds_in around.cells) (length around.guards) (op_meaning around o)
   op-over = record {
     few_params = omega (arith, few-params, count);
-    params = refinements-over around 0 (refinement_scope o) o.params (omega (arith, few-params)) (refinement-in (param_variables 0) (length cells) o) (search no_part) sized.params.1;
+    params = refinements-over around 0 (refinement_scope o) o.params (omega (arith, few-params)) (refinement-in (param_variables 0) (length cells) o) (search no_part) sized.params;
     result = formula-over (outcome_variables params) (outcome-narrow params (omega (arith, few-params, count))) (in_scope around.cells true (outcome_scope o))
         (outcome-looks (outcome_variables params) around.cells (outcome_scope o) outcome-known (inr (inl (omega arith, omega arith)))) o.gives sized.gives (search no_part);
     body = body-fits around params few-cells o.body (start_of o) [] start-place (search no_part) shape.3 sized.body.parts (omega (arith, few-queries));

@@ -1,12 +1,12 @@
 -- Programs without faults are well formed.
-use Rattle.std.proofs.Common.{◌≡◌, ℕ, ◌≤◌, inl, inr, List, [], ◌∷◌, map, length, arith, sym, ◌∙◌, subst}
+use Rattle.std.proofs.Common.{◌≡◌, ◌≤◌, inl, inr, List, [], ◌∷◌, map, length, arith, sym, ◌∙◌, subst}
 use Rattle.std.specs.List.{AllByRecursion, flat_map}
 use Rattle.std.proofs.lemmas.List.{length-map}
 use Rattle.carol_store.specs.declared.shape.CellKind.{CellKind}
 use Rattle.carol_formula.specs.Claim.{Claim}
 use Rattle.carol_syntax.specs.Files.{NamedFormula, OpTree, ProgramTree}
 use Rattle.carol_syntax.specs.Shape.{IsOp, IsProgram}
-use Rattle.carol_syntax.specs.Size.{IsSizedNamed, IsSizedOp, IsSizedProgram}
+use Rattle.carol_meaning.specs.Sizes.{IsShortNamed, IsShortOp, IsShortProgram}
 use Rattle.carol_program.specs.Limits.{most_cells, most_guards, most_ops}
 use Rattle.carol_program.specs.Variables.{invariant_variables, guard_variables}
 use Rattle.carol_program.specs.WellFormed.{IsFormulaOver, IsOpOver, AreCalled, AreRules, IsNamed, IsWellFormed}
@@ -44,7 +44,7 @@ all-called around (o ∷ ops) h = (op-called around o h.0, all-called around ops
 
 -- ---- the program
 
-module _ (tree : ProgramTree) (shape : IsProgram tree) (sized : IsSizedProgram tree) (none : program_faults tree ≡ []) where
+module _ (tree : ProgramTree) (shape : IsProgram tree) (sized : IsShortProgram tree) (none : program_faults tree ≡ []) where
   abbrev cells : List CellKind
   cells = flat_map kinds_in tree.cells
 
@@ -64,27 +64,27 @@ module _ (tree : ProgramTree) (shape : IsProgram tree) (sized : IsSizedProgram t
       let none-more : too_many most_ops (op_idents tree) ≡ [] = search no_part in
       few most_ops (op_idents tree) none-more
 
-  guard-over : (g : NamedFormula) → IsSizedNamed g × (formula_faults (in_guard tree.cells) g.formula ≡ []) → IsFormulaOver (guard_variables cells) (guard g)
+  guard-over : (g : NamedFormula) → IsShortNamed g × (formula_faults (in_guard tree.cells) g.formula ≡ []) → IsFormulaOver (guard_variables cells) (guard g)
   guard-over g h = formula-over (guard_variables cells) (guard-narrow cells few-kinds) (in_guard tree.cells)
       (guard-looks (guard_variables cells) tree.cells (λ v l k. inl (l, k)) (λ v l k. inr (inl (l, k)))) g.formula h.0 h.1
 
   guards-over : AllByRecursion (IsFormulaOver (guard_variables cells)) (map guard tree.guards)
   guards-over =
       let faultless = each-none (λ g. formula_faults (in_guard tree.cells) g.formula) tree.guards (search no_part) in
-      All-map _ (IsFormulaOver (guard_variables cells)) guard guard-over tree.guards (All-both _ _ tree.guards sized.guards.1 faultless)
+      All-map _ (IsFormulaOver (guard_variables cells)) guard guard-over tree.guards (All-both _ _ tree.guards sized.guards faultless)
 
   -- as many guards as the program has
   guards-count : length (guard_names tree) ≡ length (map guard tree.guards)
   guards-count = length-map tree.guards (λ g. g.name) ∙ sym (length-map tree.guards guard)
 
-  op-fits : (o : OpTree) → IsOp o × (IsSizedOp o × (op_faults (around tree) o ≡ [])) → IsOpOver cells (length (map guard tree.guards)) (op_meaning (around tree) o)
+  op-fits : (o : OpTree) → IsOp o × (IsShortOp o × (op_faults (around tree) o ≡ [])) → IsOpOver cells (length (map guard tree.guards)) (op_meaning (around tree) o)
   op-fits o h = subst (λ n. IsOpOver cells n (op_meaning (around tree) o)) guards-count (op-over (around tree) few-kinds o h.0 h.1.0 h.1.1)
 
   ops-over : AllByRecursion (IsOpOver cells (length (map guard tree.guards))) (map (op_meaning (around tree)) tree.ops)
   ops-over =
       let faultless = each-none (op_faults (around tree)) tree.ops (search no_part) in
       All-map _ (IsOpOver cells (length (map guard tree.guards))) (op_meaning (around tree)) op-fits tree.ops
-      (All-both _ _ tree.ops shape.ops (All-both _ _ tree.ops sized.ops.1 faultless))
+      (All-both _ _ tree.ops shape.ops (All-both _ _ tree.ops sized.ops faultless))
 
   rules : AreRules (rules_of tree)
   rules = record {

@@ -15,10 +15,12 @@ use Rattle.carol_syntax.specs.declared.formulas.TermDecl.{TermDecl}
 use Rattle.carol_syntax.specs.declared.formulas.Sign.{Sign}
 use Rattle.carol_syntax.specs.declared.formulas.Sign.TheVariants.{Below, AtLeast, Above, Same}
 use Rattle.carol_syntax.specs.Formulas.{FormulaTree, True, False, Not, And, Or, Compare}
-use Rattle.carol_syntax.specs.Size.{formula_size, IsSizedFormula}
+use Rattle.carol_syntax.specs.Size.{node_count}
+use Rattle.carol_meaning.specs.Sizes.{IsShortFormula}
 use Rattle.carol_program.specs.Limits.{largest_coefficient, largest_constant}
 use Rattle.carol_program.specs.Variables.{AreAmong}
-use Rattle.carol_program.specs.WellFormed.{AreSmall, IsSmall, IsTermOver, IsFormulaOver, nodes}
+use Rattle.carol_program.specs.WellFormed.{AreSmall, IsSmall, IsTermOver, IsFormulaOver}
+use Rattle.carol_formula.specs.Size.{nodes_of}
 use Rattle.carol_meaning.specs.Faults.{fault_at}
 use Rattle.carol_meaning.specs.declared.fault.NameKind.TheVariants.{TooWide}
 use Rattle.carol_meaning.specs.Terms.{Found, Worth, Nothing, Wrong, worth_of, multiplied, product_of, signed_factor, product_worth, added, sum_after, term_worth, are_small, is_small, width_faults, term_faults, or_zero, term_meaning, compared, comparison_worth, claim_or_false, formula_meaning, formula_faults}
@@ -85,12 +87,12 @@ negated-small t normal small =
 
 -- ---- nodes
 
-claim-nodes : (sign : Sign) (t : Option Linear) → nodes (claim_or_false sign t) ≤ 1
+claim-nodes : (sign : Sign) (t : Option Linear) → nodes_of (claim_or_false sign t) ≤ 1
 claim-nodes sign None = omega arith
 claim-nodes Same (Some t) = omega arith
 claim-nodes _ (Some t) = omega arith
 
-formula-nodes : (look : ValueDecl → Found) (f : FormulaTree) → nodes (formula_meaning look f) ≤ formula_size f
+formula-nodes : (look : ValueDecl → Found) (f : FormulaTree) → nodes_of (formula_meaning look f) ≤ node_count f
 formula-nodes look True = omega arith
 formula-nodes look False = omega arith
 formula-nodes look (Not f) = omega (arith, formula-nodes look f)
@@ -183,5 +185,5 @@ module _ (ranges : List (ℕ × ℕ)) where
       formula-terms (Or f g) h = (formula-terms f (search no_part), formula-terms g (search no_part))
       formula-terms (Compare left sign right) h = claim-terms (IsTermOver ranges) sign (comparison_worth sign (term_worth look left) (term_worth look right)) (comparison-over left sign right (search no_part))
 
-      pub formula-over : (f : FormulaTree) → IsSizedFormula f → formula_faults look f ≡ [] → IsFormulaOver ranges (formula_meaning look f)
-      formula-over f sized h = record { terms = formula-terms f h; few = omega (arith, sized, formula-nodes look f) }
+      pub formula-over : (f : FormulaTree) → IsShortFormula f → formula_faults look f ≡ [] → IsFormulaOver ranges (formula_meaning look f)
+      formula-over f sized h = record { terms = formula-terms f h; few = omega (arith, sized.0, formula-nodes look f) }

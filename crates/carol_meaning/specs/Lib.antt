@@ -7,4 +7,5 @@ pub mod Scopes
 pub mod Bodies
 pub mod Operations
 pub mod Programs
+pub mod Sizes
 pub mod Laws

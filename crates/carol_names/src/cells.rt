@@ -4,8 +4,8 @@ ghost use Rattle.carol_meaning.specs.Faults.{earliest};
 ghost use Rattle.carol_meaning.specs.Declarations.{place_of, too_many};
 ghost use Rattle.carol_meaning.specs.Cells.{kind_of, named, member, field, inside, cell_names, member_faults, cell_faults};
 ghost use Rattle.carol_meaning.specs.Stores.{words};
-ghost use Rattle.carol_names.specs.Numbered.{IsNumbered};
-ghost use Rattle.carol_syntax.specs.Size.{cell_count, cell_total, most_items};
+ghost use Rattle.carol_names.specs.Numbered.{IsNumbered, most_numbers};
+ghost use Rattle.carol_syntax.specs.Size.{cell_count, cell_total};
 
 use crate::declared::{Declares, note_too_many, note_twice};
 use crate::finder::Finder;
@@ -15,7 +15,7 @@ use carol_syntax::{CellDecl, FieldDecl, FieldKind, Ident};
 use std::alloc::{AllocError, Global};
 use std::marker::Model;
 
-/// The declarations of a program's cells, at most 65,536 cells in all. Contracts see them as their
+/// The declarations of a program's cells, at most 2^28 cells in all. Contracts see them as their
 /// list.
 #[derive(Drop)]
 pub struct Cells<'a> {
@@ -25,19 +25,20 @@ pub struct Cells<'a> {
 impl<'a> Model for Cells<'a> {
     ghost use Rattle.std.specs.Prelude.{List, ◌≤◌};
     ghost use Rattle.carol_syntax.specs.declared.cells.CellDecl.{CellDecl};
-    ghost use Rattle.carol_syntax.specs.Size.{cell_total, most_items};
+    ghost use Rattle.carol_syntax.specs.Size.{cell_total};
+    ghost use Rattle.carol_names.specs.Numbered.{most_numbers};
 
     ghost Value = { List CellDecl };
 
     ghost view = { λ c. c.declarations.now };
 
-    ghost invariant = { λ c. cell_total c.declarations.now ≤ most_items };
+    ghost invariant = { λ c. cell_total c.declarations.now ≤ most_numbers };
 }
 
 impl<'a> Cells<'a> {
     /// The cells of these declarations.
     pub fn new(declarations: &'a [CellDecl]) -> Cells<'a>
-        requires { cell_total declarations.now ≤ most_items }
+        requires { cell_total declarations.now ≤ most_numbers }
         ensures { result ≡ declarations.entry.now }
     {
         Cells { declarations }
@@ -64,22 +65,21 @@ impl<'a> Cells<'a> {
             if first.word.bytes() == declaration.ident().word.bytes() {
                 return inside(before, declaration, rest);
             }
-            before += cell_count(declaration);
+            before += cell_count(declaration) as u32;
             left = more;
         }
         Named::Missing
     }
 }
 
-// How many cells it declares.
-fn cell_count(declaration: &CellDecl) -> u32
-    requires { cell_count declaration.now ≤ most_items }
+/// How many cells a declaration makes.
+pub fn cell_count(declaration: &CellDecl) -> usize
     ensures { result ≡ cell_count declaration.now }
 {
     match declaration {
         CellDecl::Field(_) => 1,
-        CellDecl::Set { name: _, members } => members.len() as u32,
-        CellDecl::Record { name: _, fields } => fields.len() as u32,
+        CellDecl::Set { name: _, members } => members.len(),
+        CellDecl::Record { name: _, fields } => fields.len(),
     }
 }
 
@@ -95,7 +95,7 @@ fn kind_of(kind: FieldKind) -> CellKind
 
 /// Where a name with these bytes stands among names, first of all.
 pub fn place_of<T: Declares>(items: &[T], word: &[u8]) -> Option<u32>
-    requires { length items.now ≤ most_items }
+    requires { length items.now ≤ most_numbers }
     ensures place { result ≡ place_of word.now (map T.ident items.now) }
     ensures within { IfSome result (λ n. n < length items.now) }
 {
@@ -111,7 +111,7 @@ pub fn place_of<T: Declares>(items: &[T], word: &[u8]) -> Option<u32>
 
 // What the rest of a path names in a set, whose first cell has this number.
 fn member(before: u32, members: &[Ident], word: &Ident, rest: &[Ident]) -> Named
-    requires { before + length members.now ≤ most_items }
+    requires { before + length members.now ≤ most_numbers }
     ensures named { result ≡ member before (place_of word.now.word members.now) (words rest.now) }
     ensures numbered { IsNumbered result }
 {
@@ -130,7 +130,7 @@ fn member(before: u32, members: &[Ident], word: &Ident, rest: &[Ident]) -> Named
 
 // What the rest of a path names in a record, whose first cell has this number.
 fn field(before: u32, fields: &[FieldDecl], word: &Ident, rest: &[Ident]) -> Named
-    requires { before + length fields.now ≤ most_items }
+    requires { before + length fields.now ≤ most_numbers }
     ensures named { result ≡ field before fields.now (place_of word.now.word (map (λ f. f.name) fields.now)) (words rest.now) }
     ensures numbered { IsNumbered result }
 {
@@ -149,7 +149,7 @@ fn field(before: u32, fields: &[FieldDecl], word: &Ident, rest: &[Ident]) -> Nam
 
 // What the rest of a path names in a declaration, whose first cell has this number.
 fn inside(before: u32, declaration: &CellDecl, rest: &[Ident]) -> Named
-    requires { before + cell_count declaration.now ≤ most_items }
+    requires { before + cell_count declaration.now ≤ most_numbers }
     ensures named { result ≡ inside before declaration.now (words rest.now) }
     ensures numbered { IsNumbered result }
 {
@@ -165,7 +165,7 @@ fn inside(before: u32, declaration: &CellDecl, rest: &[Ident]) -> Named
 
 // What a declaration's own name names.
 fn whole(before: u32, declaration: &CellDecl) -> Named
-    requires { before + cell_count declaration.now ≤ most_items }
+    requires { before + cell_count declaration.now ≤ most_numbers }
     ensures named { result ≡ inside before declaration.now [] }
     ensures numbered { IsNumbered result }
 {

@@ -4,7 +4,7 @@ ghost use Rattle.carol_formula.specs.Tree.{claim_of};
 ghost use Rattle.carol_syntax.specs.Formulas as tree;
 ghost use Rattle.carol_syntax.specs.Formulas.{formula_tree};
 ghost use Rattle.carol_syntax.specs.Shape as shape;
-ghost use Rattle.carol_syntax.specs.Size.{IsSizedTerm, IsSizedFormula};
+ghost use Rattle.carol_meaning.specs.Sizes.{IsShortTerm, IsShortFormula};
 ghost use Rattle.carol_meaning.specs.Faults.{earliest};
 ghost use Rattle.carol_meaning.specs.Terms.{compared, comparison_worth, claim_or_false, formula_meaning, formula_faults};
 ghost use Rattle.carol_names.specs.Bounded.{IsBounded, most_sum};
@@ -91,8 +91,8 @@ fn comparison<G: Ground>(
 ) -> Result<Formula, AllocError>
     requires left { shape.IsTerm left.now }
     requires right { shape.IsTerm right.now }
-    requires sized_left { IsSizedTerm left.now }
-    requires sized_right { IsSizedTerm right.now }
+    requires sized_left { IsShortTerm left.now }
+    requires sized_right { IsShortTerm right.now }
     ensures faults { OnOk result (finder.new ≡ earliest finder.old (formula_faults (G.look place.now) (tree.Compare left.now sign right.now))) }
     ensures meaning { IfOk result (λ f. claim_of f ≡ formula_meaning (G.look place.now) (tree.Compare left.now sign right.now)) }
 {
@@ -111,7 +111,7 @@ pub fn formula<G: Ground>(
     formula: &FormulaDecl,
 ) -> Result<Formula, AllocError>
     requires shape { shape.IsFormula (formula_tree formula.now) }
-    requires sized { IsSizedFormula (formula_tree formula.now) }
+    requires sized { IsShortFormula (formula_tree formula.now) }
     ensures faults { OnOk result (finder.new ≡ earliest finder.old (formula_faults (G.look place.now) (formula_tree formula.now))) }
     ensures meaning { IfOk result (λ f. claim_of f ≡ formula_meaning (G.look place.now) (formula_tree formula.now)) }
 {

@@ -3,12 +3,10 @@ ghost use Rattle.std.specs.Prelude.{◌≡◌};
 use crate::store_values::{cell_value, no_value, set_value, wrong_kind};
 use crate::{Cells, Finder, Ground};
 use carol_formula::Term;
+use carol_program::FIRST_THERE;
 use carol_syntax::{ValueDecl, ValueKind};
 use std::alloc::{AllocError, Global};
 use std::marker::Model;
-
-// The variable of the first cell of the global store.
-const THERE: u32 = 16;
 
 /// A guard as a place of values. Contracts see it as the declarations of its cells.
 #[derive(Drop)]
@@ -49,9 +47,9 @@ impl<'a, 'c> Ground for InGuard<'a, 'c> {
         let named = self.cells.named(value.parts.as_slice());
         match value.kind {
             ValueKind::Here => cell_value(alloc, finder, 0, value, named),
-            ValueKind::There => cell_value(alloc, finder, THERE, value, named),
+            ValueKind::There => cell_value(alloc, finder, FIRST_THERE, value, named),
             ValueKind::SizeHere => set_value(alloc, finder, 0, value, named),
-            ValueKind::SizeThere => set_value(alloc, finder, THERE, value, named),
+            ValueKind::SizeThere => set_value(alloc, finder, FIRST_THERE, value, named),
             ValueKind::Plain => no_value(alloc, finder, value, named),
             ValueKind::Outcome | ValueKind::Size => wrong_kind(alloc, finder, value),
         }

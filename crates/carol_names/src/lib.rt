@@ -21,7 +21,7 @@ mod store_values;
 mod terms;
 
 pub use arithmetic::plus;
-pub use cells::{Cells, note_cells, place_of};
+pub use cells::{Cells, cell_count, note_cells, place_of};
 pub use declared::{Declares, note_too_many, note_twice};
 pub use finder::Finder;
 pub use formulas::formula;

@@ -2,7 +2,7 @@ ghost use Rattle.std.specs.Prelude.{◌≡◌, ◌≤◌, ◌^◌, ◌*◌, ◌<
 ghost use Rattle.std.specs.List.{AllByRecursion, flat_map};
 ghost use Rattle.carol_formula.specs.Linear.{constant_of};
 ghost use Rattle.carol_syntax.specs.Shape as shape;
-ghost use Rattle.carol_syntax.specs.Size.{IsSizedTerm};
+ghost use Rattle.carol_meaning.specs.Sizes.{IsShortTerm};
 ghost use Rattle.carol_meaning.specs.Faults.{earliest};
 ghost use Rattle.carol_meaning.specs.Terms.{signed_factor, product_worth, product_faults, added, sum_after, term_worth, values_faults, are_small, is_small, width_faults, term_faults};
 ghost use Rattle.carol_names.specs.Bounded.{IsBounded, most_value, most_product, most_sum};
@@ -102,7 +102,7 @@ pub fn values<G: Ground>(
     term: &TermDecl,
 ) -> Result<Option<Term>, AllocError>
     requires shape { shape.IsTerm term.now }
-    requires sized { IsSizedTerm term.now }
+    requires sized { IsShortTerm term.now }
     ensures faults { OnOk result (finder.new ≡ earliest finder.old (values_faults (G.look place.now) term.now)) }
     ensures worth { IfOk result (λ t. t ≡ term_worth (G.look place.now) term.now) }
     ensures bounded { IfOk result (λ t. IfSome t (IsBounded most_sum)) }
@@ -157,7 +157,7 @@ pub fn term<G: Ground>(
     term: &TermDecl,
 ) -> Result<Option<Term>, AllocError>
     requires shape { shape.IsTerm term.now }
-    requires sized { IsSizedTerm term.now }
+    requires sized { IsShortTerm term.now }
     ensures faults { OnOk result (finder.new ≡ earliest finder.old (term_faults (G.look place.now) term.now)) }
     ensures worth { IfOk result (λ t. t ≡ term_worth (G.look place.now) term.now) }
 {

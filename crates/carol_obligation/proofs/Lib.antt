@@ -22,6 +22,8 @@ pub mod Exact
 pub mod Light
 pub mod Sizes
 pub mod Steps
+pub mod Spots
+pub mod Alike
 mod PartTerms
 mod Loops
 mod Gathering

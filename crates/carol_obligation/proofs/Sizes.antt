@@ -12,18 +12,19 @@ use Rattle.carol_formula.specs.Named.{named_claim, named_term}
 use Rattle.carol_formula.proofs.Renamings.{weight-named_term}
 use Rattle.carol_program.specs.declared.steps.Part.{Part}
 use Rattle.carol_program.specs.Rules.{Rules, OpRules}
-use Rattle.carol_program.specs.WellFormed.{nodes, AreRules, IsTermOver, IsFormulaOver}
+use Rattle.carol_program.specs.WellFormed.{AreRules, IsTermOver, IsFormulaOver}
+use Rattle.carol_formula.specs.Size.{nodes_of, light_limit, IsLightTerm, IsLight}
 use Rattle.carol_program.specs.Limits.{most_cells, most_queries, most_statements}
 use Rattle.carol_program.specs.Variables.{guard_variables, invariant_variables, outcome_variables, query_variable}
 use Rattle.carol_obligation.specs.Decoded.{round_variable}
 use Rattle.carol_obligation.specs.Sites.{Ending, Amount, After, Gives}
 use Rattle.carol_obligation.specs.Formed.{at_most, with_flags, with_round, with_query, guard_at, with_test, too_large, tie, with_tie, with_ties, broken, owed, round_name, guard_name, after_name, result_name}
-use Rattle.carol_obligation.specs.Budget.{light_limit, amount_limit, IsLightTerm, IsLight, IsDecidable, AreLightParts, AreSmallParts, round_nodes, test_nodes}
+use Rattle.carol_obligation.specs.Budget.{amount_limit, IsDecidable, AreLightParts, AreSmallParts, round_nodes, test_nodes}
 use Rattle.carol_obligation.proofs.Light.{HaveNames, light_term, named_light, round_named, guard_named, after_named, result_named}
 
 -- ---- renamed formulas
 
-pub nodes-named_claim : (name : ℕ → Linear) (c : Claim) → nodes (named_claim name c) ≡ nodes c
+pub nodes-named_claim : (name : ℕ → Linear) (c : Claim) → nodes_of (named_claim name c) ≡ nodes_of c
 nodes-named_claim name True = omega arith
 nodes-named_claim name False = omega arith
 nodes-named_claim name (Le t) = omega arith
@@ -51,13 +52,13 @@ light-named_claim can name ranges (Not a) h each = light-named_claim can name ra
 -- the formula is light, and has at most so many nodes more than the other
 pub record Grows (old : Claim) (by : ℕ) (new : Claim) : Type 0 where
   pub light : IsLight old → IsLight new
-  pub few : nodes new ≤ nodes old + by
+  pub few : nodes_of new ≤ nodes_of old + by
 
 pub grows_then : {a b c : Claim} {m n : ℕ} → Grows a m b → Grows b n c → Grows a (m + n) c
 grows_then {a} {b} {c} {m} {n} g h = record { light = λ l. h.light (g.light l); few = omega (arith, g.few, h.few) }
 
 -- one formula more
-pub grows_and : (old c : Claim) (most : ℕ) → IsLight c → nodes c ≤ most → Grows old (most + 1) (And old c)
+pub grows_and : (old c : Claim) (most : ℕ) → IsLight c → nodes_of c ≤ most → Grows old (most + 1) (And old c)
 grows_and old c most light few = record { light = λ l. (l, light); few = omega (arith, few) }
 
 pub light_at_most : (s t : Linear) → weight s + weight t < light_limit → IsLight (at_most s t)
@@ -75,7 +76,7 @@ grows_flags (Flag ∷ kinds) base known =
 grows_flags (Counter ∷ kinds) base known = let more = grows_flags kinds (base + 1) known in record { light = more.light; few = omega (arith, more.few) }
 grows_flags (Peak ∷ kinds) base known = let more = grows_flags kinds (base + 1) known in record { light = more.light; few = omega (arith, more.few) }
 
-with_stored : (kinds : List CellKind) (base : ℕ) (known c : Claim) → length kinds ≤ most_cells → IsLight c → nodes c ≤ 256 → Grows known round_nodes (with_flags kinds base (And known c))
+with_stored : (kinds : List CellKind) (base : ℕ) (known c : Claim) → length kinds ≤ most_cells → IsLight c → nodes_of c ≤ 256 → Grows known round_nodes (with_flags kinds base (And known c))
 with_stored kinds base known c few light small =
     let first = grows_and known c 256 light small in
     let more = grows_flags kinds base (And known c) in
@@ -168,7 +169,7 @@ grows_broken p op round params (Gives value) known rules le over h =
     record { light = λ l. (l, light); few = omega (arith, nodes-named_claim name op.result, over.few) }
 
 -- the formula of a place can be decided
-pub owed_decidable : (p : Rules) (op : OpRules) (round params : ℕ) (ending : Ending) (known : Claim) → AreRules p → round ≤ most_statements → IsFormulaOver (outcome_variables params) op.result → IsSmallEnding ending → IsLight known → nodes known ≤ 50000 → IsDecidable (owed p op round ending known)
+pub owed_decidable : (p : Rules) (op : OpRules) (round params : ℕ) (ending : Ending) (known : Claim) → AreRules p → round ≤ most_statements → IsFormulaOver (outcome_variables params) op.result → IsSmallEnding ending → IsLight known → nodes_of known ≤ 50000 → IsDecidable (owed p op round ending known)
 owed_decidable p op round params ending known rules le over small light few =
     let first = grows_round p round known rules le in
     let more = grows_broken p op round params ending (with_round p round known) rules le over small in

@@ -7,7 +7,8 @@ use Rattle.carol_program.specs.Limits.{most_queries, most_statements}
 use Rattle.carol_program.specs.Bodies.{Body, Query, Issue, Release, Branch, Return, last_number, queries_in, depth}
 use Rattle.carol_program.specs.Rules.{Rules, OpRules}
 use Rattle.carol_program.specs.Variables.{param_variables}
-use Rattle.carol_program.specs.WellFormed.{nodes, setting_of, variables_in, AreRefinements, AreRules, IsFitBody, IsOpOver, RisesFrom, SlotsFrom}
+use Rattle.carol_program.specs.WellFormed.{setting_of, variables_in, AreRefinements, AreRules, IsFitBody, IsOpOver, RisesFrom, SlotsFrom}
+use Rattle.carol_formula.specs.Size.{nodes_of}
 use Rattle.carol_obligation.specs.Formed.{with_all, with_closing}
 use Rattle.carol_obligation.specs.Budget.{reserve, cost, most_known, round_nodes}
 use Rattle.carol_obligation.specs.Collected.{Point, behind_query, behind_closing, behind_test}
@@ -71,7 +72,7 @@ closing_grows : (p : Rules) (asked : Bool) (round : ℕ) (known : Claim) → Are
 closing_grows p true round known rules le = grows_round p round known rules le
 closing_grows p false round known rules le = record { light = λ l. l; few = omega arith }
 
-pub ready_closing : (p : Rules) (at : Point) (number : ℕ) (next : Body) (slots : List ℕ) (slot : ℕ) → AreRules p → HasRoom p at → IsFitBody (setting_of p.shape (length p.guards) at.op) slots next → (at.round + 1 ≤ number) × RisesFrom (number + 1) next → last_number next ≤ most_statements → SlotsFrom slot next → slot + queries_in next ≤ most_queries → nodes at.known + reserve at.asked + cost next ≤ most_known → IsReady p (behind_closing p at) next
+pub ready_closing : (p : Rules) (at : Point) (number : ℕ) (next : Body) (slots : List ℕ) (slot : ℕ) → AreRules p → HasRoom p at → IsFitBody (setting_of p.shape (length p.guards) at.op) slots next → (at.round + 1 ≤ number) × RisesFrom (number + 1) next → last_number next ≤ most_statements → SlotsFrom slot next → slot + queries_in next ≤ most_queries → nodes_of at.known + reserve at.asked + cost next ≤ most_known → IsReady p (behind_closing p at) next
 ready_closing p at number next slots slot rules room fit rises last order queries few =
     let grows = closing_grows p at.asked at.round at.known rules room.round in
     record {
@@ -164,7 +165,7 @@ ready_start p op number known over e = subst (λ k. IsReady p (record { op = op;
   in_order = over.slots;
   few_queries = omega (arith, over.few_queries);
   light = grows.light tt;
-  few = few_known (nodes (with_all op.params True)) (cost op.body) (length op.params) (queries_in op.body) (depth op.body) grows.few (cost_few op.body) over.few_params over.few_queries over.shallow;
+  few = few_known (nodes_of (with_all op.params True)) (cost op.body) (length op.params) (queries_in op.body) (depth op.body) grows.few (cost_few op.body) over.few_params over.few_queries over.shallow;
 })
   where
     grows : Grows True (257 * length op.params) (with_all op.params True)

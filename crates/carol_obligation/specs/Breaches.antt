@@ -26,6 +26,12 @@ AreTied kinds after [] f = Unit {0}
 AreTied kinds after (part ∷ parts) f =
     (slice_get kinds part.cell ≡ Some Peak → f (cell_variable part.cell) ≡ number_in after part.cell) × AreTied kinds after parts f
 
+-- so has each peak that is raised at an issue's invariant; elsewhere none is raised
+abbrev pub HasTies : List CellKind → Way → Ending → (ℕ → ℤ) → Type 0
+HasTies kinds way (Amount atom kind part) f = Unit {0}
+HasTies kinds way (After parts) f = AreTied kinds (after_at kinds way parts f) parts f
+HasTies kinds way (Gives value) f = Unit {0}
+
 -- the reading that stands there has what is asked not so
 abbrev pub Breaks : Rules → OpRules → Way → Ending → (ℕ → ℤ) → Type 0
 Breaks p op way (Amount atom kind part) f = ¬ IsAmount kind (value_at part.amount f)

@@ -1,27 +1,16 @@
 -- How large formulas of places grow: no number in them is wide, and they have few nodes.
 use Rattle.std.specs.Prelude.{ℕ, ◌+◌, ◌*◌, ◌^◌, ◌<◌, ◌≤◌, Bool, true, false, max, List, [], ◌∷◌, length}
 use Rattle.carol_program.specs.declared.steps.Part.{Part}
-use Rattle.carol_formula.specs.Claim.{Claim, EachTerm}
-use Rattle.carol_formula.specs.Linear.{Linear}
+use Rattle.carol_formula.specs.Claim.{Claim}
 use Rattle.carol_formula.specs.Weight.{weight}
 use Rattle.carol_program.specs.Limits.{most_cells}
 use Rattle.carol_program.specs.Bodies.{Body, Query, Issue, Release, Branch, Return}
-use Rattle.carol_program.specs.WellFormed.{nodes}
-
--- the limit of the weight of a term
-abbrev pub light_limit : ℕ
-light_limit = 2 ^ 89
-
-abbrev pub IsLightTerm : Linear → Type 0
-IsLightTerm t = weight t < light_limit
-
-abbrev pub IsLight : Claim → Type 0
-IsLight c = EachTerm IsLightTerm c
+use Rattle.carol_formula.specs.Size.{nodes_of, IsLight}
 
 -- the formula and its denial can be decided
 pub record IsDecidable (c : Claim) : Type 0 where
   pub light : IsLight c
-  pub few : nodes c ≤ 65535
+  pub few : nodes_of c ≤ 65535
 
 -- what the invariant of a round adds at the most, with the rows of the flags of its store; so does a
 -- guard with those of its query's store

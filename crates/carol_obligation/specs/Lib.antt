@@ -4,6 +4,7 @@ pub mod Decoded
 pub mod Breaches
 pub mod Formed
 pub mod Places
+pub mod Spots
 pub mod GoodLaw
 pub mod TruthLaw
 pub mod Collected
@@ -11,3 +12,4 @@ pub mod Budget
 pub mod Ready
 pub mod Passing
 pub mod Listed
+pub mod Keeping

@@ -4,12 +4,13 @@ use Rattle.carol_formula.specs.Tree.{claim_of}
 use Rattle.carol_program.specs.Limits.{most_statements, most_queries}
 use Rattle.carol_program.specs.Bodies.{Body, last_number, queries_in}
 use Rattle.carol_program.specs.Rules.{Rules, op_rules}
-use Rattle.carol_program.specs.WellFormed.{nodes, setting_of, IsFitBody, IsOpOver, RisesFrom, SlotsFrom}
+use Rattle.carol_program.specs.WellFormed.{setting_of, IsFitBody, IsOpOver, RisesFrom, SlotsFrom}
+use Rattle.carol_formula.specs.Size.{nodes_of, IsLight}
 use Rattle.carol_obligation.specs.declared.standing.Operation.{Operation}
 use Rattle.carol_obligation.specs.declared.standing.Standing.{Standing}
 use Rattle.carol_obligation.specs.declared.standing.At.{At}
 use Rattle.carol_obligation.specs.Collected.{Point}
-use Rattle.carol_obligation.specs.Budget.{IsLight, reserve, cost, most_known}
+use Rattle.carol_obligation.specs.Budget.{reserve, cost, most_known}
 
 abbrev pub point_of : Operation → Standing → Point
 point_of of standing = record {
@@ -29,7 +30,7 @@ pub record HasRoom (p : Rules) (at : Point) : Type 0 where
   pub op : IsOpOver p.shape (length p.guards) at.op
   pub round : at.round ≤ most_statements
   pub light : IsLight at.known
-  pub few : nodes at.known ≤ most_known
+  pub few : nodes_of at.known ≤ most_known
 
 -- the walk can go on there
 pub record IsReady (p : Rules) (at : Point) (body : Body) : Type 0 where
@@ -43,4 +44,4 @@ pub record IsReady (p : Rules) (at : Point) (body : Body) : Type 0 where
   pub in_order : SlotsFrom slot body
   pub few_queries : slot + queries_in body ≤ most_queries
   pub light : IsLight at.known
-  pub few : nodes at.known + reserve at.asked + cost body ≤ most_known
+  pub few : nodes_of at.known + reserve at.asked + cost body ≤ most_known

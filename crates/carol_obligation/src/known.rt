@@ -12,7 +12,7 @@ ghost use Rattle.carol_obligation.specs.Formed.{
 };
 
 use crate::names::{GuardNames, RoundNames, round_variable};
-use crate::rows::{and, not, with_flags};
+use crate::rows::{with_flags, with_more};
 use carol_formula::{Boxed, Formula, renamed};
 use carol_program::Program;
 use std::alloc::{AllocError, Global};
@@ -30,7 +30,7 @@ pub(crate) fn with_round(
         ≡ with_round (rules_in program.now) round (claim_of known)) }
 {
     let invariant = renamed(alloc, &program.invariant, &RoundNames { round })?;
-    let known = and(alloc, known, invariant)?;
+    let known = with_more(alloc, known, invariant)?;
     let flags = with_flags(
         alloc,
         program.shape.kinds(),
@@ -67,7 +67,7 @@ pub(crate) fn with_query(
         ≡ with_query (rules_in program.now) guard slot round (claim_of known)) }
 {
     let formula = renamed(alloc, guard_of(program, guard), &GuardNames { slot, round })?;
-    let known = and(alloc, known, formula)?;
+    let known = with_more(alloc, known, formula)?;
     let flags = with_flags(alloc, program.shape.kinds(), 64 + 16 * slot, known)?;
     Ok(flags)
 }
@@ -103,10 +103,10 @@ pub(crate) fn with_test(
 {
     let test = test.copy(alloc)?;
     if side {
-        return and(alloc, known, test);
+        return with_more(alloc, known, test);
     }
-    let denied = not(alloc, test)?;
-    and(alloc, known, denied)
+    let denied = Formula::not(alloc, test)?;
+    with_more(alloc, known, denied)
 }
 
 /// Each formula is true.
@@ -122,7 +122,7 @@ pub(crate) fn with_all(
     let mut left = formulas;
     while let Some((formula, more)) = left.split_first() {
         let one = formula.copy(alloc)?;
-        known = and(alloc, known, one)?;
+        known = with_more(alloc, known, one)?;
         left = more;
     }
     Ok(known)

@@ -10,7 +10,7 @@ ghost use Rattle.carol_obligation.specs.Budget.{AreLightParts, amount_limit};
 
 use crate::known::with_round;
 use crate::names::{AfterNames, ResultNames, kind_at, round_variable};
-use crate::rows::{and, copied, not, tie, too_large};
+use crate::rows::{copied, tie, too_large, with_more};
 use carol_formula::{Boxed, Formula, Term, Variable, renamed};
 use carol_program::{Op, Part, Program};
 use carol_store::CellKind;
@@ -33,8 +33,8 @@ pub(crate) fn amount_owed(
 {
     let known = with_round(alloc, program, round, copied(alloc, known)?)?;
     let large = too_large(alloc, kind, &part.amount)?;
-    let broken = and(alloc, known, large)?;
-    let owed = not(alloc, broken.into_inner())?;
+    let broken = with_more(alloc, known, large)?;
+    let owed = Formula::not(alloc, broken.into_inner())?;
     Ok(owed)
 }
 
@@ -58,7 +58,7 @@ fn with_tie(
     let cell = Term::variable(alloc, Variable(round_variable(round, part.cell)))?;
     let peak = Term::variable(alloc, Variable(part.cell))?;
     let tied = tie(alloc, &cell, &peak, &part.amount)?;
-    and(alloc, known, tied)
+    with_more(alloc, known, tied)
 }
 
 // The same for each of the parts.
@@ -106,9 +106,9 @@ pub(crate) fn invariant_owed(
         round,
     };
     let invariant = renamed(alloc, &program.invariant, &after)?;
-    let denied = not(alloc, invariant)?;
-    let broken = and(alloc, known, denied)?;
-    let owed = not(alloc, broken.into_inner())?;
+    let denied = Formula::not(alloc, invariant)?;
+    let broken = with_more(alloc, known, denied)?;
+    let owed = Formula::not(alloc, broken.into_inner())?;
     Ok(owed)
 }
 
@@ -132,8 +132,8 @@ pub(crate) fn result_owed(
 {
     let known = with_round(alloc, program, round, copied(alloc, known)?)?;
     let meets = renamed(alloc, &op.result, &ResultNames { value })?;
-    let denied = not(alloc, meets)?;
-    let broken = and(alloc, known, denied)?;
-    let owed = not(alloc, broken.into_inner())?;
+    let denied = Formula::not(alloc, meets)?;
+    let broken = with_more(alloc, known, denied)?;
+    let owed = Formula::not(alloc, broken.into_inner())?;
     Ok(owed)
 }

@@ -20,34 +20,17 @@ pub(crate) fn copied(alloc: Global, formula: &Boxed<Formula>) -> Result<Boxed<Fo
     Ok(same)
 }
 
-/// Both formulas.
-pub(crate) fn and(
+/// What is known, and this.
+pub(crate) fn with_more(
     alloc: Global,
-    left: Boxed<Formula>,
-    right: Formula,
+    known: Boxed<Formula>,
+    more: Formula,
 ) -> Result<Boxed<Formula>, AllocError>
-    ensures { IfOk result (λ f. claim_of f ≡ claim.And (claim_of left) (claim_of right)) }
+    ensures { IfOk result (λ f. claim_of f ≡ claim.And (claim_of known) (claim_of more)) }
 {
-    let right = Boxed::new(alloc, right)?;
-    let both = Boxed::new(alloc, Formula::And(left, right))?;
+    let more = Boxed::new(alloc, more)?;
+    let both = Boxed::new(alloc, Formula::And(known, more))?;
     Ok(both)
-}
-
-/// The denial of a formula.
-pub(crate) fn not(alloc: Global, formula: Formula) -> Result<Formula, AllocError>
-    ensures { IfOk result (λ f. claim_of f ≡ claim.Not (claim_of formula)) }
-{
-    let inner = Boxed::new(alloc, formula)?;
-    Ok(Formula::Not(inner))
-}
-
-// One of the formulas.
-fn or(alloc: Global, left: Formula, right: Formula) -> Result<Formula, AllocError>
-    ensures { IfOk result (λ f. claim_of f ≡ claim.Or (claim_of left) (claim_of right)) }
-{
-    let left = Boxed::new(alloc, left)?;
-    let right = Boxed::new(alloc, right)?;
-    Ok(Formula::Or(left, right))
 }
 
 /// The one term is at most the other.
@@ -71,9 +54,7 @@ fn flag_rows(alloc: Global, v: u32) -> Result<Formula, AllocError>
     let variable = Term::variable(alloc, Variable(v))?;
     let least = at_most(&Term::constant(alloc, 0), &variable)?;
     let most = at_most(&variable, &Term::constant(alloc, 1))?;
-    let least = Boxed::new(alloc, least)?;
-    let both = and(alloc, least, most)?;
-    Ok(both.into_inner())
+    Formula::and(alloc, least, most)
 }
 
 /// What is known, and that the flags of the store with the variables from `base` on are 0 or 1.
@@ -92,7 +73,7 @@ pub(crate) fn with_flags(
     while let Some((kind, more)) = left.split_first() {
         if matches!(kind, CellKind::Flag) {
             let rows = flag_rows(alloc, variable)?;
-            known = and(alloc, known, rows)?;
+            known = with_more(alloc, known, rows)?;
         }
         variable += 1;
         left = more;
@@ -119,7 +100,7 @@ pub(crate) fn too_large(alloc: Global, kind: CellKind, term: &Term) -> Result<Fo
     let beyond = Term::constant(alloc, most_of(kind) + 1);
     let above = at_most(&beyond, term)?;
     let below = Formula::Le(plus(term, &beyond)?);
-    or(alloc, above, below)
+    Formula::or(alloc, above, below)
 }
 
 /// The variable of a raised peak is the greater of the cell of the round and the target.
@@ -136,12 +117,11 @@ pub(crate) fn tie(
         (claim.And (at_most cell.now peak.now) (at_most target.now peak.now))
         (claim.Or (at_most peak.now cell.now) (at_most peak.now target.now))) }
 {
-    let first = Boxed::new(alloc, at_most(cell, peak)?)?;
+    let first = at_most(cell, peak)?;
     let second = at_most(target, peak)?;
-    let least = and(alloc, first, second)?;
+    let least = Formula::and(alloc, first, second)?;
     let one = at_most(peak, cell)?;
     let other = at_most(peak, target)?;
-    let most = or(alloc, one, other)?;
-    let both = and(alloc, least, most)?;
-    Ok(both.into_inner())
+    let most = Formula::or(alloc, one, other)?;
+    Formula::and(alloc, least, most)
 }

@@ -16,7 +16,7 @@ use Rattle.carol_syntax.specs.declared.place.Place.{Place}
 use Rattle.carol_syntax.specs.First.{first_token, judged_word, judged_number, first_symbol}
 use Rattle.carol_syntax.specs.Place.{start, past_space, passes, is_blank, place_over, place_behind}
 use Rattle.carol_syntax.specs.Cut.{CutFrom, is_transcript, lexeme_at}
-use Rattle.carol_print.specs.Pieces.{Piece, text_of, tokens_in, IsSpelled, ends_before, AreLaidOut, IsPiece, Spells, CutAgain}
+use Rattle.carol_print.specs.Pieces.{Piece, text_of, tokens_in, IsSpelled, ends_before, AreLaidOut, IsPiece, Spells, EndAsPieces, CutAgain}
 use Rattle.carol_print.specs.Pieces.Piece.{Token, Space, Break}
 use Rattle.carol_print.proofs.Symbols.{token_with, symbol_goes}
 use Rattle.carol_print.proofs.Words.{word_goes}
@@ -94,11 +94,12 @@ token_is at whole spelled rest kind value h =
     (refl, refl, rw (count, h) (take-append_seam spelled rest))
 
 abbrev CutOn : List ℕ → Place → List Piece → Type 0
-CutOn whole at pieces = (list : List Lexeme) × (end : Place) × CutFrom (past_space false at (text_of pieces)) list End end × Spells whole list (tokens_in pieces)
+CutOn whole at pieces =
+    (list : List Lexeme) × (end : Place) × CutFrom (past_space false at (text_of pieces)) list End end × Spells whole list (tokens_in pieces) × EndAsPieces at.offset list pieces
 
 cut_on : (whole : List ℕ) (pieces : List Piece) (at : Place) → drop at.offset whole ≡ text_of pieces → AreLaidOut pieces → CutOn whole at pieces
 unfolding past_space
-cut_on whole [] at h laid = ([], at, (refl, refl), tt)
+cut_on whole [] at h laid = ([], at, (refl, refl), tt, tt)
 cut_on whole (Space ∷ pieces) at h laid = cut_on whole pieces (place_behind at 32) (moved at.offset 1 whole (32 ∷ []) (text_of pieces) h refl) laid
 cut_on whole (Break ∷ pieces) at h laid = cut_on whole pieces (place_behind at 10) (moved at.offset 1 whole (10 ∷ []) (text_of pieces) h refl) laid
 cut_on whole (Token kind value spelled ∷ pieces) at h laid =
@@ -108,6 +109,7 @@ cut_on whole (Token kind value spelled ∷ pieces) at h laid =
       more.1,
       one_more at spelled (text_of pieces) kind value more.0 End more.1 first laid.1 more.2,
       (token_is at whole spelled (text_of pieces) kind value h, more.3),
+      (refl, more.4),
     )
 
 pub laid_out : (pieces : List Piece) → AreLaidOut pieces → CutAgain pieces

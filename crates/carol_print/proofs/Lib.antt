@@ -27,3 +27,9 @@ pub mod FormulaTexts
 pub mod Lines
 pub mod Parts
 pub mod Back
+pub mod Counting
+pub mod Growing
+pub mod Going
+pub mod GoingParts
+pub mod GoingFiles
+pub mod Smallness

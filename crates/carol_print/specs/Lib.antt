@@ -3,3 +3,4 @@ pub mod Canonical
 pub mod Spelled
 pub mod Enclosing
 pub mod ReadBack
+pub mod Small

@@ -1,5 +1,5 @@
 -- What a canonical text is made of, and that it is cut again into what it was made of.
-use Rattle.std.specs.Prelude.{◌≡◌, ℕ, zero, suc, ◌-◌, Bool, true, false, not, ◌&&◌, ◌==◌, if◌then◌else◌, List, [], ◌∷◌, ◌++◌, length, take, drop, Some, codes}
+use Rattle.std.specs.Prelude.{◌≡◌, ℕ, zero, suc, ◌+◌, ◌-◌, Bool, true, false, not, ◌&&◌, ◌==◌, if◌then◌else◌, List, [], ◌∷◌, ◌++◌, length, take, drop, Some, codes}
 use Rattle.carol_syntax.specs.Words.{is_word_byte, keywords}
 use Rattle.carol_syntax.specs.declared.kind.Kind.{Kind}
 use Rattle.carol_syntax.specs.declared.kind.Kind.TheVariants as k
@@ -85,10 +85,18 @@ Spells bytes [] (piece ∷ pieces) = ⊥
 Spells bytes (l ∷ lexemes) [] = ⊥
 Spells bytes (l ∷ lexemes) (piece ∷ pieces) = IsPiece bytes l piece × Spells bytes lexemes pieces
 
--- the text of the pieces is cut to its end into their tokens
+-- each lexeme ends where its piece does; the first piece begins at this offset
+abbrev pub EndAsPieces : ℕ → List Lexeme → List Piece → Type 0
+EndAsPieces at lexemes [] = Unit {0}
+EndAsPieces at [] (Token kind value spelled ∷ pieces) = ⊥
+EndAsPieces at (l ∷ lexemes) (Token kind value spelled ∷ pieces) = (l.to ≡ at + length spelled) × EndAsPieces (at + length spelled) lexemes pieces
+EndAsPieces at lexemes (Space ∷ pieces) = EndAsPieces (at + 1) lexemes pieces
+EndAsPieces at lexemes (Break ∷ pieces) = EndAsPieces (at + 1) lexemes pieces
+
+-- the text of the pieces is cut to its end into their tokens, where the pieces put them
 abbrev pub CutAgain : List Piece → Type 0
 CutAgain pieces =
-    (list : List Lexeme) × (end : Place) × Cut start (text_of pieces) list End end × Spells (text_of pieces) list (tokens_in pieces)
+    (list : List Lexeme) × (end : Place) × Cut start (text_of pieces) list End end × Spells (text_of pieces) list (tokens_in pieces) × EndAsPieces 0 list pieces
 
 -- how the symbols are spelled, in the order of their kinds
 abbrev pub symbols : List (List ℕ)

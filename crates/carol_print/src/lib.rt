@@ -18,5 +18,5 @@ mod tests;
 mod whole;
 
 pub use laying::{canonical_is_laid_out, laid_out};
-pub use readback::canonical_is_read;
+pub use readback::{canonical_is_read, small_is_read};
 pub use whole::print;

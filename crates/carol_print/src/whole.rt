@@ -7,8 +7,8 @@ ghost use Rattle.carol_print.specs.Canonical.{canonical, part_of, scene, script}
 
 use crate::programs::push_program;
 use crate::scenes::{push_scene, push_script};
-use crate::{canonical_is_laid_out, canonical_is_read, laid_out};
-use carol_grammar::{one_bad, one_text};
+use crate::{canonical_is_laid_out, canonical_is_read, laid_out, small_is_read};
+use carol_grammar::{one_bad, one_outcome, one_text};
 use carol_syntax::{File, SceneDecl, ScriptLineList};
 use std::alloc::{AllocError, Global};
 
@@ -49,16 +49,18 @@ pub fn print(alloc: Global, file: &File) -> Result<Vec<u8>, AllocError>
     requires { IsFile (file_tree file.now) }
     ensures text { IfOk result (λ text. text.items ≡ text_of (canonical (file_tree file.now))) }
 
-    // The text is a file with the same tree, and reading it gives that tree unless it passes a
-    // limit.
+    // The text is a file with the same tree, and reading it gives that tree unless the tree isn't
+    // small: then it may pass a limit.
     ensures file { IfOk result (λ text. IsTextOf text.items (file_tree file.now)) }
     ensures read_back { IfOk result (λ text. IsReadBack text.items (file_tree file.now)) }
 {
     canonical_is_laid_out();
     laid_out();
     canonical_is_read();
+    small_is_read();
     one_text();
     one_bad();
+    one_outcome();
     let mut out = Vec::new(alloc);
     push_file(&mut out, file)?;
     Ok(out)

@@ -6,7 +6,8 @@ use Rattle.carol_store.specs.declared.shape.CellKind.TheVariants.{Counter, Peak,
 use Rattle.carol_store.specs.Kinds.{CellValue, number_of}
 use Rattle.carol_store.specs.Stores.{IsStore}
 use Rattle.carol_formula.specs.Linear.{Linear, constant_of}
-use Rattle.carol_formula.specs.Claim.{Claim, True, False, Le, Eq, Ne, And, Or, Not, EachTerm}
+use Rattle.carol_formula.specs.Claim.{Claim, EachTerm}
+use Rattle.carol_formula.specs.Size.{nodes_of}
 use Rattle.carol_program.specs.declared.steps.Part.{Part}
 use Rattle.carol_program.specs.declared.names.OpNames.{OpNames}
 use Rattle.carol_program.specs.declared.names.Names.{Names}
@@ -32,21 +33,10 @@ pub record IsTermOver (ranges : List (ℕ × ℕ)) (t : Linear) : Type 0 where
   pub small : IsSmall t
   pub short : length t.pairs ≤ most_products
 
--- how many nodes a formula has, a comparison counted as one
-abbrev pub nodes : Claim → ℕ
-nodes True = 1
-nodes False = 1
-nodes (Le t) = 1
-nodes (Eq t) = 1
-nodes (Ne t) = 1
-nodes (And a b) = nodes a + nodes b + 1
-nodes (Or a b) = nodes a + nodes b + 1
-nodes (Not a) = nodes a + 1
-
 -- a formula of a place where these variables may be used
 pub record IsFormulaOver (ranges : List (ℕ × ℕ)) (c : Claim) : Type 0 where
   pub terms : EachTerm (IsTermOver ranges) c
-  pub few : nodes c ≤ most_nodes
+  pub few : nodes_of c ≤ most_nodes
 
 -- ---- bodies
 

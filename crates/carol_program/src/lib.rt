@@ -28,4 +28,6 @@ pub use places::Place;
 pub use program::{FormulaList, Guard, GuardList, Op, OpList, Program};
 pub use scenes::{ArgList, Command, CommandList, PlanList, Scene, SessionPlan};
 pub use steps::{Part, PartList, Step};
-pub use variables::{FIRST_PARAMETER, FIRST_QUERIED, FIRST_THERE, RESULT_VARIABLE, STORE_VARIABLES};
+pub use variables::{
+    FIRST_PARAMETER, FIRST_QUERIED, FIRST_THERE, RESULT_VARIABLE, STORE_VARIABLES,
+};

@@ -5,6 +5,7 @@ use Rattle.carol_syntax.specs.Size.{most_items}
 use Rattle.carol_meaning.specs.declared.meaning.Meaning.{Meaning}
 use Rattle.carol_meaning.specs.declared.meaning.Meaning.TheVariants.{Parameter, Queried, Bound, Elsewhere}
 use Rattle.carol_meaning.specs.Scopes.{Scope}
+use Rattle.carol_names.specs.Numbered.{most_numbers}
 use Rattle.carol_names.specs.Bounded.{IsBounded, most_value}
 
 -- a place of an operation: the cells, whether `result` may stand there, and what names stand for
@@ -13,9 +14,9 @@ pub record Spot : Type 0 where
   pub outcome : Bool
   pub scope : Scope
 
--- numbers are within the limits of a file, and terms no larger than a value
+-- numbers are small, and terms no larger than a value
 abbrev pub IsSafe : Meaning → Type 0
-IsSafe (Parameter number) = number ≤ most_items
+IsSafe (Parameter number) = number ≤ most_numbers
 IsSafe (Queried slot) = slot ≤ most_items
 IsSafe (Bound term) = IfSome term (IsBounded most_value)
 IsSafe Elsewhere = Unit {0}

@@ -1,6 +1,6 @@
 ghost use Rattle.std.specs.Prelude.{◌≡◌, ◌≤◌, length, map};
 ghost use Rattle.carol_meaning.specs.Declarations.{place_of};
-ghost use Rattle.carol_syntax.specs.Size.{most_items};
+ghost use Rattle.carol_names.specs.Numbered.{most_numbers};
 
 use carol_names::{Cells, place_of};
 use carol_syntax::GuardDecl;
@@ -16,19 +16,19 @@ pub struct Around<'a> {
 impl<'a> Model for Around<'a> {
     ghost use Rattle.std.specs.Prelude.{◌≤◌, length, map};
     ghost use Rattle.carol_meaning.specs.Bodies as bodies;
-    ghost use Rattle.carol_syntax.specs.Size.{most_items};
+    ghost use Rattle.carol_names.specs.Numbered.{most_numbers};
 
     ghost Value = { bodies.Around };
 
     ghost view = { λ a. record { cells = a.cells.now; guards = map (λ g. g.name) a.guards.now } };
 
-    ghost invariant = { λ a. length a.guards.now ≤ most_items };
+    ghost invariant = { λ a. length a.guards.now ≤ most_numbers };
 }
 
 impl<'a> Around<'a> {
-    /// These cells, and these guards, of which there are at most 65,536.
+    /// These cells, and these guards, of which there are at most 2^28.
     pub fn new(cells: &'a Cells<'a>, guards: &'a [GuardDecl]) -> Around<'a>
-        requires { length guards.now ≤ most_items }
+        requires { length guards.now ≤ most_numbers }
         ensures { result ≡
             record { cells = cells.entry.now; guards = map (λ g. g.name) guards.entry.now } }
     {

@@ -1,7 +1,8 @@
 ghost use Rattle.std.specs.Prelude.{◌≡◌, ◌≤◌, ◌+◌, OnOk, IfOk};
 ghost use Rattle.carol_syntax.specs.Bodies.{body_tree};
 ghost use Rattle.carol_syntax.specs.Shape as shape;
-ghost use Rattle.carol_syntax.specs.Size.{IsSizedBody, HasSizedParts, IsSizedTerm, statement_count, most_items};
+ghost use Rattle.carol_syntax.specs.Size.{statement_count, most_items};
+ghost use Rattle.carol_meaning.specs.Sizes.{IsShortBody, HasShortParts, IsShortTerm};
 ghost use Rattle.carol_program.specs.Bodies as steps;
 ghost use Rattle.carol_program.specs.Bodies.{body_of};
 ghost use Rattle.carol_meaning.specs.Faults.{earliest};
@@ -32,7 +33,7 @@ fn returned(
     value: &TermDecl,
 ) -> Result<Step, AllocError>
     requires shape { shape.IsTerm value.now }
-    requires sized { IsSizedTerm value.now }
+    requires sized { IsShortTerm value.now }
     requires number { at.old.number ≤ most_items }
     ensures faults { OnOk result
         (finder.new ≡ earliest finder.old (term_faults (in_body around.now at.old) value.now)) }
@@ -77,7 +78,7 @@ fn body_at<'a>(
     body: &'a Body,
 ) -> Result<Step, AllocError>
     requires shape { shape.IsBody (body_tree body.now) }
-    requires sized { HasSizedParts (body_tree body.now) }
+    requires sized { HasShortParts (body_tree body.now) }
     requires number { at.old.number + statement_count (body_tree body.now) ≤ most_items + 1 }
     ensures faults { OnOk result (finder.new ≡
         earliest finder.old (body_faults around.now at.old (body_tree body.entry.now))) }
@@ -125,7 +126,7 @@ pub fn body<'a>(
     body: &'a Body,
 ) -> Result<Step, AllocError>
     requires shape { shape.IsBody (body_tree body.now) }
-    requires sized { IsSizedBody (body_tree body.now) }
+    requires sized { IsShortBody (body_tree body.now) }
     ensures faults { OnOk result (finder.new ≡ earliest finder.old (body_faults around.now
         (record { scope = scope.entry; slot = 0; number = 1 }) (body_tree body.entry.now))) }
     ensures meaning { IfOk result (λ s. body_of s ≡ body_meaning around.now

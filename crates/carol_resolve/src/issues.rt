@@ -1,7 +1,7 @@
 ghost use Rattle.std.specs.Prelude.{◌≡◌, OnOk, IfOk, []};
 ghost use Rattle.std.specs.List.{AllByRecursion};
 ghost use Rattle.carol_syntax.specs.Shape as shape;
-ghost use Rattle.carol_syntax.specs.Size.{IsSizedChange, IsSizedAtom};
+ghost use Rattle.carol_meaning.specs.Sizes.{IsShortChange, IsShortAtom};
 ghost use Rattle.carol_meaning.specs.Faults.{earlier, earliest};
 ghost use Rattle.carol_meaning.specs.Bodies.{in_body, path_fault, suits, change_faults, amount_faults, again_faults, seen_with, atom_faults, target, issue_faults, number_of, amount_of, part_of, parts_of};
 ghost use Rattle.carol_resolve.specs.Issues.{HasSame};
@@ -100,7 +100,7 @@ fn amount(
     change: &Change,
 ) -> Result<Term, AllocError>
     requires shape { shape.IsChange change.now }
-    requires sized { IsSizedChange change.now }
+    requires sized { IsShortChange change.now }
     ensures faults { OnOk result
         (finder.new ≡ earliest finder.old (amount_faults (in_body around.now at.now) change.now)) }
     ensures meaning { IfOk result (λ t. t ≡ amount_of (in_body around.now at.now) change.now) }
@@ -139,7 +139,7 @@ fn part(
     atom: &AtomDecl,
 ) -> Result<Part, AllocError>
     requires shape { shape.IsAtom atom.now }
-    requires sized { IsSizedAtom atom.now }
+    requires sized { IsShortAtom atom.now }
     ensures faults { OnOk result (finder.new ≡ earliest finder.old
         (atom_faults around.now at.now seen.old atom.now (target around.now atom.now))) }
     ensures seen { OnOk result
@@ -165,7 +165,7 @@ pub(crate) fn issue(
     atoms: &[AtomDecl],
 ) -> Result<PartList, AllocError>
     requires shape { AllByRecursion shape.IsAtom atoms.now }
-    requires sized { AllByRecursion IsSizedAtom atoms.now }
+    requires sized { AllByRecursion IsShortAtom atoms.now }
     ensures faults { OnOk result
         (finder.new ≡ earliest finder.old (issue_faults around.now at.now [] atoms.now)) }
     ensures parts { IfOk result (λ ps. ps ≡ parts_of around.now at.now atoms.now) }

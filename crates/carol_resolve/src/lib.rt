@@ -10,6 +10,7 @@
 
 mod around;
 mod bodies;
+mod counts;
 mod declared;
 mod error;
 mod heads;

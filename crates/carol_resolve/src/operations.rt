@@ -3,9 +3,10 @@ ghost use Rattle.carol_program.specs.Rules.{op_rules};
 ghost use Rattle.carol_syntax.specs.Bodies.{body_tree};
 ghost use Rattle.carol_syntax.specs.Files.{op_tree};
 ghost use Rattle.carol_syntax.specs.Shape.{IsOp};
-ghost use Rattle.carol_syntax.specs.Size.{IsSizedOp};
+ghost use Rattle.carol_meaning.specs.Sizes.{IsShortOp};
 ghost use Rattle.carol_meaning.specs.Faults.{earliest};
 ghost use Rattle.carol_meaning.specs.Bodies.{queries_of};
+ghost use Rattle.carol_resolve.specs.Counts.{HasFewParams};
 ghost use Rattle.carol_meaning.specs.Operations.{op_faults, op_meaning, op_names};
 
 use crate::declared::{Declared, note_declared};
@@ -41,7 +42,8 @@ pub fn operation(
     op: &OpDecl,
 ) -> Result<(Op, OpNames), AllocError>
     requires shape { IsOp (op_tree op.now) }
-    requires sized { IsSizedOp (op_tree op.now) }
+    requires few { HasFewParams (op_tree op.now) }
+    requires sized { IsShortOp (op_tree op.now) }
     ensures faults { OnOk result
         (finder.new ≡ earliest finder.old (op_faults around.now (op_tree op.now))) }
     ensures meaning { IfOk result (λ r. op_rules r.0 ≡ op_meaning around.now (op_tree op.now)) }

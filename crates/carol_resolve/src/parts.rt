@@ -5,12 +5,13 @@ ghost use Rattle.carol_program.specs.Rules.{guard_claim, op_rules};
 ghost use Rattle.carol_syntax.specs.Formulas.{formula_tree};
 ghost use Rattle.carol_syntax.specs.Files.{guard_tree, op_tree, program_tree};
 ghost use Rattle.carol_syntax.specs.Shape.{IsNamed, IsOp, IsProgram};
-ghost use Rattle.carol_syntax.specs.Size.{IsSizedNamed, IsSizedOp, IsSizedProgram};
+ghost use Rattle.carol_meaning.specs.Sizes.{IsShortNamed, IsShortOp, IsShortProgram};
 ghost use Rattle.carol_meaning.specs.Faults.{earliest};
 ghost use Rattle.carol_meaning.specs.Terms.{formula_meaning, formula_faults};
 ghost use Rattle.carol_meaning.specs.Stores.{in_guard};
 ghost use Rattle.carol_meaning.specs.Operations.{op_faults, op_meaning, op_names};
 ghost use Rattle.carol_meaning.specs.Programs.{list_faults, program_faults, rules_of, names_of};
+ghost use Rattle.carol_resolve.specs.Counts.{HasFewParams, CanBeNumbered};
 
 use crate::{Around, operation};
 use carol_formula::Formula;
@@ -55,7 +56,7 @@ fn guard(
     guard: &GuardDecl,
 ) -> Result<Guard, AllocError>
     requires shape { IsNamed (guard_tree guard.now) }
-    requires sized { IsSizedNamed (guard_tree guard.now) }
+    requires sized { IsShortNamed (guard_tree guard.now) }
     ensures faults { OnOk result (finder.new ≡ earliest finder.old
         (formula_faults (in_guard cells.now) (formula_tree guard.now.formula))) }
     ensures meaning { IfOk result (λ g. guard_claim g ≡
@@ -74,7 +75,7 @@ fn guards(
     guards: &[GuardDecl],
 ) -> Result<GuardList, AllocError>
     requires shape { AllByRecursion IsNamed (map guard_tree guards.now) }
-    requires sized { AllByRecursion IsSizedNamed (map guard_tree guards.now) }
+    requires sized { AllByRecursion IsShortNamed (map guard_tree guards.now) }
     ensures faults { OnOk result (finder.new ≡ earliest finder.old
         (flat_map (λ g. formula_faults (in_guard cells.now) g.formula)
         (map guard_tree guards.now))) }
@@ -97,7 +98,8 @@ fn operations(
     ops: &[OpDecl],
 ) -> Result<(OpList, OpNameList), AllocError>
     requires shape { AllByRecursion IsOp (map op_tree ops.now) }
-    requires sized { AllByRecursion IsSizedOp (map op_tree ops.now) }
+    requires few { AllByRecursion HasFewParams (map op_tree ops.now) }
+    requires sized { AllByRecursion IsShortOp (map op_tree ops.now) }
     ensures faults { OnOk result
         (finder.new ≡ earliest finder.old (flat_map (op_faults around.now) (map op_tree ops.now))) }
     ensures meaning { IfOk result (λ r.
@@ -121,7 +123,8 @@ pub(crate) fn find_parts(
     program: &ProgramDecl,
 ) -> Result<Parts, AllocError>
     requires shape { IsProgram (program_tree program.now) }
-    requires sized { IsSizedProgram (program_tree program.now) }
+    requires few { CanBeNumbered (program_tree program.now) }
+    requires sized { IsShortProgram (program_tree program.now) }
     ensures faults { OnOk result
         (finder.new ≡ earliest finder.old (program_faults (program_tree program.now))) }
     ensures invariant { IfOk result (λ p.

@@ -7,27 +7,17 @@ ghost use Rattle.carol_meaning.specs.Faults.{earliest};
 ghost use Rattle.carol_meaning.specs.Terms.{Worth, worth_of, found_faults};
 ghost use Rattle.carol_meaning.specs.Scopes.{alone, bound_value, queried_cell, queried_set, plain_value, size_value, look_plain, look_size};
 ghost use Rattle.carol_names.specs.Bounded.{IsBounded, most_value};
+ghost use Rattle.carol_names.specs.Numbered.{most_numbers};
 ghost use Rattle.carol_resolve.specs.Scoped.{IsSafe};
 
 use crate::scope::Scope;
 use carol_formula::{Term, Variable};
 use carol_meaning::Meaning;
 use carol_names::{Cells, Finder, Ground, cell_value, set_value, unknown, wrong_kind};
+use carol_program::{FIRST_PARAMETER, FIRST_QUERIED, RESULT_VARIABLE, STORE_VARIABLES};
 use carol_syntax::{Ident, ValueDecl, ValueKind};
 use std::alloc::{AllocError, Global};
 use std::marker::Model;
-
-// The variable of the first parameter.
-const PARAMETERS: u32 = 32;
-
-// The variable of the result.
-const OUTCOME: u32 = 48;
-
-// The variable of the first cell of the store that the first query took, and how many each query
-// has.
-const QUERIES: u32 = 64;
-
-const QUERY_CELLS: u32 = 16;
 
 /// A place of an operation as a place of values. Contracts see it as its cells, whether `result`
 /// may stand there, and what names stand for.
@@ -76,7 +66,7 @@ impl<'a, 'c, 's> Ground for InScope<'a, 'c, 's> {
             ValueKind::Plain => plain(self.cells, self.scope, alloc, finder, value),
             ValueKind::Size => size(self.cells, self.scope, alloc, finder, value),
             ValueKind::Outcome if self.outcome => {
-                let outcome = Term::variable(alloc, Variable(OUTCOME))?;
+                let outcome = Term::variable(alloc, Variable(RESULT_VARIABLE))?;
                 Ok(Some(outcome))
             }
             ValueKind::Outcome
@@ -96,7 +86,7 @@ fn parameter(
     rest: &[Ident],
     number: u32,
 ) -> Result<Option<Term>, AllocError>
-    requires { number ≤ most_items }
+    requires { number ≤ most_numbers }
     ensures faults { OnOk result (finder.new ≡ earliest finder.old
         (found_faults (alone value.now rest.now (Worth (variable_of (param_variable number)))))) }
     ensures worth { IfOk result (λ t. t
@@ -105,7 +95,7 @@ fn parameter(
     if !rest.is_empty() {
         return wrong_kind(alloc, finder, value);
     }
-    let variable = Term::variable(alloc, Variable(PARAMETERS + number))?;
+    let variable = Term::variable(alloc, Variable(FIRST_PARAMETER + number))?;
     Ok(Some(variable))
 }
 
@@ -153,7 +143,7 @@ fn queried_cell(
     cell_value(
         alloc,
         finder,
-        QUERIES + QUERY_CELLS * slot,
+        FIRST_QUERIED + STORE_VARIABLES * slot,
         value,
         cells.named(rest),
     )
@@ -180,7 +170,7 @@ fn queried_set(
     set_value(
         alloc,
         finder,
-        QUERIES + QUERY_CELLS * slot,
+        FIRST_QUERIED + STORE_VARIABLES * slot,
         value,
         cells.named(rest),
     )

@@ -4,7 +4,8 @@ ghost use Rattle.carol_formula.specs.Tree.{claim_of};
 ghost use Rattle.carol_syntax.specs.Files.{param_tree};
 ghost use Rattle.carol_syntax.specs.Formulas.{formula_tree};
 ghost use Rattle.carol_syntax.specs.Shape.{IsNamed, IsFormula};
-ghost use Rattle.carol_syntax.specs.Size.{IsSizedNamed, IsSizedFormula, AreSized, most_items};
+ghost use Rattle.carol_names.specs.Numbered.{most_numbers};
+ghost use Rattle.carol_meaning.specs.Sizes.{IsShortNamed, IsShortFormula};
 ghost use Rattle.carol_meaning.specs.Faults.{earliest};
 ghost use Rattle.carol_meaning.specs.Terms.{formula_meaning, formula_faults};
 ghost use Rattle.carol_meaning.specs.Scopes.{declared, in_scope};
@@ -30,7 +31,7 @@ pub(crate) fn refinement(
     refinement: &FormulaDecl,
 ) -> Result<Formula, AllocError>
     requires shape { IsFormula (formula_tree refinement.now) }
-    requires sized { IsSizedFormula (formula_tree refinement.now) }
+    requires sized { IsShortFormula (formula_tree refinement.now) }
     ensures faults { OnOk result (finder.new ≡ earliest finder.old (formula_faults
         (in_scope around.now.cells outcome scope.now) (formula_tree refinement.now))) }
     ensures meaning { IfOk result (λ f. claim_of f ≡ formula_meaning
@@ -51,9 +52,9 @@ fn param_refinement<'a>(
     number: u32,
     param: &'a ParamDecl,
 ) -> Result<Formula, AllocError>
-    requires number { number ≤ most_items }
+    requires number { number ≤ most_numbers }
     requires shape { IsNamed (param_tree param.now) }
-    requires sized { IsSizedNamed (param_tree param.now) }
+    requires sized { IsShortNamed (param_tree param.now) }
     ensures scope { OnOk result
         (scope.new ≡ declared param.entry.now.name.word (Parameter number) scope.old) }
     ensures faults { OnOk result (finder.new ≡ earliest finder.old (formula_faults
@@ -75,7 +76,8 @@ pub(crate) fn refinements<'a>(
     params: &'a [ParamDecl],
 ) -> Result<FormulaList, AllocError>
     requires shape { AllByRecursion IsNamed (map param_tree params.now) }
-    requires sized { AreSized IsSizedNamed (map param_tree params.now) }
+    requires few { length params.now ≤ most_numbers }
+    requires sized { AllByRecursion IsShortNamed (map param_tree params.now) }
     ensures scope { OnOk result
         (scope.new ≡ with_params 0 scope.old (map param_tree params.entry.now)) }
     ensures faults { OnOk result (finder.new ≡ earliest finder.old

@@ -1,7 +1,7 @@
 ghost use Rattle.std.specs.Prelude.{◌≡◌, ◌≤◌, [], map, length, OnOk, IfOk, is_some, if◌then◌else◌};
 ghost use Rattle.carol_syntax.specs.Bodies.{body_tree};
 ghost use Rattle.carol_syntax.specs.Files.{param_tree, op_tree};
-ghost use Rattle.carol_syntax.specs.Size.{most_items};
+ghost use Rattle.carol_names.specs.Numbered.{most_numbers};
 ghost use Rattle.carol_meaning.specs.Bodies.{queries_of};
 ghost use Rattle.carol_meaning.specs.Scopes.{meaning_of, declared};
 ghost use Rattle.carol_meaning.specs.Operations.{with_params, refinement_scope};
@@ -17,7 +17,7 @@ pub(crate) fn body_scope<'a>(
     alloc: Global,
     params: &'a [ParamDecl],
 ) -> Result<Scope<'a>, AllocError>
-    requires { length params.now ≤ most_items }
+    requires { length params.now ≤ most_numbers }
     ensures { IfOk result (λ s. s ≡ with_params 0 [] (map param_tree params.entry.now)) }
 {
     let mut scope = Scope::new(alloc);

@@ -1,7 +1,8 @@
 ghost use Rattle.std.specs.Prelude.{◌≡◌, ◌≤◌, ◌+◌, OnOk, IfOk, length};
 ghost use Rattle.std.specs.List.{AllByRecursion};
 ghost use Rattle.carol_syntax.specs.Shape as shape;
-ghost use Rattle.carol_syntax.specs.Size.{IsSizedTerm, IsSizedStatement, most_items};
+ghost use Rattle.carol_syntax.specs.Size.{most_items};
+ghost use Rattle.carol_meaning.specs.Sizes.{IsShortTerm, IsShortStatement};
 ghost use Rattle.carol_program.specs.Bodies.{Body};
 ghost use Rattle.carol_meaning.specs.Faults.{earliest};
 ghost use Rattle.carol_meaning.specs.Declarations.{place_of};
@@ -74,7 +75,7 @@ fn bind<'a>(
     term: &TermDecl,
 ) -> Result<(), AllocError>
     requires shape { shape.IsTerm term.now }
-    requires sized { IsSizedTerm term.now }
+    requires sized { IsShortTerm term.now }
     requires number { at.old.number ≤ most_items }
     ensures faults { OnOk result (finder.new ≡ earliest finder.old
         (statement_faults around.now at.old (Statement.Let name.entry.now term.now))) }
@@ -96,7 +97,7 @@ fn statement<'a>(
     statement: &'a Statement,
 ) -> Result<(), AllocError>
     requires shape { shape.IsStatement statement.now }
-    requires sized { IsSizedStatement statement.now }
+    requires sized { IsShortStatement statement.now }
     requires number { at.old.number ≤ most_items }
     ensures faults { OnOk result (finder.new ≡
         earliest finder.old (statement_faults around.now at.old statement.entry.now)) }
@@ -139,7 +140,7 @@ pub(crate) fn statements<'a>(
     plain: &'a [Statement],
 ) -> Result<Vec<Head>, AllocError>
     requires shape { AllByRecursion shape.IsStatement plain.now }
-    requires sized { AllByRecursion IsSizedStatement plain.now }
+    requires sized { AllByRecursion IsShortStatement plain.now }
     requires number { at.old.number + length plain.now ≤ most_items + 1 }
     ensures faults { OnOk result
         (finder.new ≡ earliest finder.old (plain_faults around.now at.old plain.entry.now)) }

@@ -3,7 +3,7 @@ ghost use Rattle.carol_formula.specs.Linear.{scaled};
 ghost use Rattle.carol_formula.specs.Tree.{claim_of};
 ghost use Rattle.carol_syntax.specs.Formulas.{formula_tree};
 ghost use Rattle.carol_syntax.specs.Shape as shape;
-ghost use Rattle.carol_syntax.specs.Size.{IsSizedTerm, IsSizedFormula};
+ghost use Rattle.carol_meaning.specs.Sizes.{IsShortTerm, IsShortFormula};
 ghost use Rattle.carol_meaning.specs.Faults.{earliest};
 ghost use Rattle.carol_meaning.specs.Terms.{term_worth, term_faults, term_meaning, formula_meaning, formula_faults};
 ghost use Rattle.carol_meaning.specs.Bodies.{in_body, small_or_none};
@@ -37,7 +37,7 @@ pub(crate) fn worth(
     term: &TermDecl,
 ) -> Result<Option<Term>, AllocError>
     requires shape { shape.IsTerm term.now }
-    requires sized { IsSizedTerm term.now }
+    requires sized { IsShortTerm term.now }
     ensures faults { OnOk result
         (finder.new ≡ earliest finder.old (term_faults (in_body around.now at.now) term.now)) }
     ensures worth { IfOk result (λ t. t ≡ term_worth (in_body around.now at.now) term.now) }
@@ -56,7 +56,7 @@ pub(crate) fn meaning(
     term: &TermDecl,
 ) -> Result<Term, AllocError>
     requires shape { shape.IsTerm term.now }
-    requires sized { IsSizedTerm term.now }
+    requires sized { IsShortTerm term.now }
     ensures faults { OnOk result
         (finder.new ≡ earliest finder.old (term_faults (in_body around.now at.now) term.now)) }
     ensures meaning { IfOk result (λ t. t ≡ term_meaning (in_body around.now at.now) term.now) }
@@ -76,7 +76,7 @@ pub(crate) fn test(
     formula: &FormulaDecl,
 ) -> Result<Formula, AllocError>
     requires shape { shape.IsFormula (formula_tree formula.now) }
-    requires sized { IsSizedFormula (formula_tree formula.now) }
+    requires sized { IsShortFormula (formula_tree formula.now) }
     ensures faults { OnOk result (finder.new ≡ earliest finder.old
         (formula_faults (in_body around.now at.now) (formula_tree formula.now))) }
     ensures meaning { IfOk result (λ f. claim_of f ≡

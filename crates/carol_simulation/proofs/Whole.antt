@@ -9,16 +9,16 @@ use Rattle.carol_program.specs.Rules.{Rules}
 use Rattle.carol_program.specs.Variables.{number_of_args}
 use Rattle.carol_program.specs.declared.scenes.Scene.{Scene}
 use Rattle.carol_reading.specs.Good.{Meet}
-use Rattle.carol_reading.specs.Marks.{Returned}
+use Rattle.carol_reading.specs.Marks.{Mark, Asked, Issued, Released, Returned}
 use Rattle.carol_event.specs.declared.event.Event.{Event}
 use Rattle.carol_event.specs.declared.event.Event.TheVariants.{Grant, Query, Issue, Release, Return, Refuse, Deliver, Cut, Join}
-use Rattle.carol_history.specs.Acts.{UnderWay, acts, attempt, marks}
+use Rattle.carol_history.specs.Acts.{Next, UnderWay, acts, attempt, marks}
 use Rattle.carol_history.specs.Journals.{journal, is_held, global}
 use Rattle.carol_history.specs.Laws.{FewStayLow, IsLow, OrdersAgree, ReplicasAgree, StaysLow}
 use Rattle.carol_history.specs.Runs.{Run}
 use Rattle.carol_history.specs.Sequential.{Sequential}
-use Rattle.carol_simulation.specs.Upheld.{AllAnswer, AttemptsAreRead, GoesOn, HasReading, MayRun, MeetsNoFault, RunsUphold, Upheld}
-use Rattle.carol_simulation.proofs.Marks.{attempt_not_returned, follows}
+use Rattle.carol_simulation.specs.Upheld.{AllAnswer, AttemptsAreRead, GoesOn, HasReading, MayRun, MeetsNoFault, RunsUphold, StaysWithin, Upheld}
+use Rattle.carol_simulation.proofs.Marks.{attempt_not_returned, follows, issued_ascends}
 use Rattle.carol_simulation.proofs.Sessions.{called}
 use Rattle.carol_simulation.proofs.Steps.{Kept, is_good, is_reading, is_sound, kept_cut, kept_deliver, kept_grant, kept_issue, kept_join, kept_query, kept_refuse, kept_release, kept_return, kept_start}
 
@@ -76,17 +76,27 @@ module _ (laws : AreLaws) (p : Rules) (scene : Scene) (may : MayRun p scene) whe
       in (record { next = run.0; invariant = k.invariant; stand = (k.each session).stand }, sequential past run.1)
   sequential (event ∷ past) run = (tt, sequential past run.1)
 
+  within : (past : List Event) → Run p scene past → (session : ℕ) (mark : Mark) (next : Next p scene session mark past) → StaysWithin p scene session past mark next
+  within past run session (Issued effect) next =
+      let k = kept past run
+      in let good = is_good p scene may session (Issued effect) past next
+      in let reading = is_reading p scene may session (Issued effect) past k next
+      in (
+        (
+          issued_ascends p.shape next.op.body (number_of_args next.way.command.args) (marks (attempt (acts session past))) effect next.reads,
+          good.fits next.way.command.args (marks (attempt (acts session past))) effect (k.each session).ready.ended (global p past) reading next.reads,
+        ),
+        good.keeps next.way.command.args (marks (attempt (acts session past))) effect (k.each session).ready.ended (global p past) reading next.reads,
+      )
+  within past run session (Returned value) next =
+      let k = kept past run
+      in (is_good p scene may session (Returned value) past next).answers next.way.command.args (marks (attempt (acts session past))) value (k.each session).ready.ended (global p past) (is_reading p scene may session (Returned value) past k next) next.reads
+  within past run session (Asked guard store) next = tt
+  within past run session Released next = tt
+
   all_answer : (past : List Event) → Run p scene past → AllAnswer p scene past
   all_answer [] run = tt
-  all_answer (Return session value ∷ past) run =
-      let k = kept past run.1
-      in (
-        record {
-          next = run.0;
-          meets = (is_good p scene may session (Returned value) past run.0).answers run.0.way.command.args (marks (attempt (acts session past))) value (k.each session).ready.ended (global p past) (is_reading p scene may session (Returned value) past k run.0) run.0.reads;
-        },
-        all_answer past run.1,
-      )
+  all_answer (Return session value ∷ past) run = (record { next = run.0; meets = within past run.1 session (Returned value) run.0 }, all_answer past run.1)
   all_answer (event ∷ past) run = all_answer past run.1
 
   pub goes_on : (past : List Event) → Run p scene past → (session : ℕ) → UnderWay scene session past → GoesOn p scene session past
@@ -100,6 +110,7 @@ module _ (laws : AreLaws) (p : Rules) (scene : Scene) (may : MayRun p scene) whe
       let low : StaysLow p past = laws.low p past may.rules.store may.rules.start (kept past run).effects few
       in record {
         goes_on = goes_on past run;
+        within = within past run;
         effects = (kept past run).effects;
         answers = all_answer past run;
         low = low;

@@ -4,6 +4,7 @@ use Rattle.std.specs.List.{AllByRecursion}
 use Rattle.carol_store.specs.declared.effect.Atom.{Atom}
 use Rattle.carol_store.specs.Effects.{IsEffect}
 use Rattle.carol_store.specs.Kinds.{CellValue}
+use Rattle.carol_store.specs.Stores.{apply}
 use Rattle.carol_formula.specs.Claim.{truth}
 use Rattle.carol_formula.specs.Value.{set_at}
 use Rattle.carol_program.specs.Accords.{Accords}
@@ -17,7 +18,7 @@ use Rattle.carol_program.specs.declared.scenes.Command.{Command}
 use Rattle.carol_program.specs.declared.scenes.Scene.{Scene}
 use Rattle.carol_program.specs.declared.scenes.SessionPlan.{SessionPlan}
 use Rattle.carol_reading.specs.Good.{IsAccepted, IsReading}
-use Rattle.carol_reading.specs.Marks.{Mark, Returned, HasNotReturned}
+use Rattle.carol_reading.specs.Marks.{Mark, Asked, Issued, Released, Returned, HasNotReturned}
 use Rattle.carol_reading.specs.Rounds.{MeetsInvariant}
 use Rattle.carol_event.specs.declared.event.Event.{Event}
 use Rattle.carol_event.specs.declared.event.Event.TheVariants.{Return}
@@ -49,10 +50,26 @@ pub record GoesOn (p : Rules) (scene : Scene) (session : ℕ) (past : List Event
   pub mark : Mark
   pub next : Next p scene session mark past
 
--- no session meets a fault: one with a command under way goes on, effects are of the shape with no
--- amount too large, results meet their refinements, and cells are low, whichever entries are applied
+-- what the session leaves next is within bounds: an effect is of the shape with no amount too
+-- large, and keeps the invariant; a value meets the refinement of the operation that returns it
+abbrev pub StaysWithin :
+    (p : Rules) (scene : Scene) (session : ℕ) (past : List Event) (mark : Mark) →
+    Next p scene session mark past → Type 0
+StaysWithin p scene session past (Issued effect) next =
+    IsEffect p.shape effect × MeetsInvariant p (apply p.shape effect (global p past))
+StaysWithin p scene session past (Returned value) next =
+    truth next.op.result
+    (set_at result_variable value (number_of_args next.way.command.args)) ≡ true
+StaysWithin p scene session past (Asked guard store) next = Unit {0}
+StaysWithin p scene session past Released next = Unit {0}
+
+-- no session meets a fault: one with a command under way goes on, whatever a session goes on with
+-- is within bounds, effects are of the shape with no amount too large, results meet their
+-- refinements, and cells are low, whichever entries are applied
 pub record MeetsNoFault (p : Rules) (scene : Scene) (past : List Event) : Type 0 where
   pub goes_on : (session : ℕ) → UnderWay scene session past → GoesOn p scene session past
+  pub within : (session : ℕ) (mark : Mark) (next : Next p scene session mark past) →
+      StaysWithin p scene session past mark next
   pub effects : AllByRecursion (IsEffect p.shape) (journal past)
   pub answers : AllAnswer p scene past
   pub low : StaysLow p past

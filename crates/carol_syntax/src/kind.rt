@@ -93,8 +93,8 @@ pub enum Kind {
     Call,
 }
 
-/// The keywords, `shape`, `open`, `in` and `call` without a rule that uses them.
-const KEYWORDS: [(&str, Kind); 47] = [
+/// The keywords with what they are; no rule uses `shape`, `open`, `in` and `call`.
+pub const KEYWORDS: [(&str, Kind); 47] = [
     ("program", Kind::Program),
     ("scene", Kind::Scene),
     ("script", Kind::Script),

@@ -30,7 +30,7 @@ pub use files::{File, GuardDecl, GuardDeclList, ProgramDecl};
 pub use formulas::{
     FormulaDecl, ProductDecl, ProductDeclList, Sign, TermDecl, ValueDecl, ValueKind,
 };
-pub use kind::Kind;
+pub use kind::{KEYWORDS, Kind};
 pub use lexeme::{Lexeme, Lexemes, Stop, cut, one_cut};
 pub use limits::{
     LARGEST, LONGEST_NAME, MOST_BODY_DEPTH, MOST_FORMULA_NODES, MOST_PROGRAM_BYTES,

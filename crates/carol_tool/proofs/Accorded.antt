@@ -10,7 +10,7 @@ use Rattle.carol_store.specs.declared.shape.CellKind.TheVariants.{Counter, Peak,
 use Rattle.carol_store.specs.Kinds.{can_go, ways}
 use Rattle.std.specs.List.{AllByRecursion}
 use Rattle.carol_formula.specs.Claim.{Claim}
-use Rattle.carol_accept.specs.Named.{name_at}
+use Rattle.carol_accept.specs.Named.{name_at, way_word}
 use Rattle.carol_program.specs.declared.accords.Entry.{Entry}
 use Rattle.carol_program.specs.declared.accords.Entry.TheVariants.{Yes, No}
 use Rattle.carol_program.specs.declared.names.Names.{Names}
@@ -19,7 +19,7 @@ use Rattle.carol_program.specs.Preserving.{IsRight}
 use Rattle.carol_program.specs.Rules.{Rules, guard_claim, rules_in}
 use Rattle.carol_program.proofs.Ways.{place_of-within}
 use Rattle.carol_reading.specs.Kept.{Kept}
-use Rattle.carol_accept.specs.Texts.{accord_text, answer_word, cell_text, cells_text, guard_text, guards_text, line_feed, way_text, way_word, ways_text}
+use Rattle.carol_accept.specs.Texts.{accord_text, answer_word, cell_text, cells_text, guard_text, guards_text, line_feed, way_text, ways_text}
 
 -- the table is right, and has an entry for each guard and way
 pub record IsWhole (p : Rules) (table : Accords) : Type 0 where
@@ -76,7 +76,7 @@ abbrev TellSame : Accords → Accords → ℕ → ℕ → Bool → Type 0
 TellSame t u guard cell up = answer_word (entry_of t guard cell up) ≡ answer_word (entry_of u guard cell up)
 
 way_same : (names : Names) (t u : Accords) (guard cell : ℕ) (up : Bool) → TellSame t u guard cell up → way_text names t guard cell up ≡ way_text names u guard cell up
-way_same names t u guard cell up h = ap (λ w. name_at names.cells cell ++ (way_word up ++ (w ++ line_feed))) h
+way_same names t u guard cell up h = ap (λ w. name_at names.cells cell ++ (way_word up ++ (codes " " ++ (w ++ line_feed)))) h
 
 ways_same : (names : Names) (t u : Accords) (guard cell : ℕ) (ups : List Bool) → AllByRecursion (TellSame t u guard cell) ups → ways_text names t guard cell ups ≡ ways_text names u guard cell ups
 ways_same names t u guard cell [] h = refl

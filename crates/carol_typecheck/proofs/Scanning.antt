@@ -16,7 +16,8 @@ use Rattle.carol_obligation.specs.Listed.{owed_of, owed_in}
 use Rattle.carol_obligation.specs.declared.list.Obligation.{Obligation}
 use Rattle.carol_typecheck.specs.declared.verdict.Verdict.{Verdict}
 use Rattle.carol_typecheck.specs.declared.verdict.Verdict.TheVariants.{Good, Fails, Undecided}
-use Rattle.carol_typecheck.specs.Deciding.{AreDecidable, IsJudged, first_of}
+use Rattle.carol_obligation.specs.Keeping.{AreDecidable}
+use Rattle.carol_typecheck.specs.Deciding.{IsJudged, first_of}
 use Rattle.carol_typecheck.specs.Formulas.{IsVerdictOn}
 use Rattle.carol_typecheck.proofs.Lists.{first-append}
 use Rattle.carol_typecheck.proofs.Settling.{verdict_rest}

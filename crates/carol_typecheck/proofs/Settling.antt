@@ -13,7 +13,8 @@ use Rattle.carol_typecheck.specs.declared.verdict.Verdict.{Verdict}
 use Rattle.carol_typecheck.specs.declared.verdict.Verdict.TheVariants.{Good, Fails, Undecided}
 use Rattle.carol_typecheck.specs.Deciding.{AwaitsRest, IsFoundSoFar}
 use Rattle.carol_typecheck.specs.Formulas.{IsProved, IsVerdictOn}
-use Rattle.carol_typecheck.proofs.Lists.{all-append, first-append, first_behind}
+use Rattle.carol_obligation.proofs.Each.{all-append}
+use Rattle.carol_typecheck.proofs.Lists.{first-append, first_behind}
 
 -- ---- what is found
 
@@ -70,3 +71,15 @@ found_none v waiting good none = found_verdict v waiting [] none (subst (IsVerdi
 pub verdict_all : (r : Result Verdict AllocError) (v : Verdict) (waiting : List Obligation) (taken : List (Place × Claim)) → IsFoundSoFar v waiting taken → IfOk r (λ w. (all : List (Place × Claim)) → IsFoundSoFar v waiting all → IsVerdictOn all w) → IfOk r (IsVerdictOn taken)
 verdict_all (Ok w) v waiting taken found told = told taken found
 verdict_all (Err e) v waiting taken found told = tt
+
+-- ---- one at a time
+
+-- behind proved formulas this one is decided
+pub judged_next : (old new : Verdict) (o : Obligation) → old ≡ Good → IsVerdictOn (owed_of o ∷ []) new → (taken : List (Place × Claim)) → IsVerdictOn taken old → IsVerdictOn (taken ++ owed_of o ∷ []) new
+judged_next old new o good told taken before = verdict_rest taken (owed_of o ∷ []) new (subst (IsVerdictOn taken) good before) told
+
+-- what stands against one of them stays
+pub judged_stays : (v : Verdict) (more : List (Place × Claim)) → (v ≡ Good → ⊥) → (taken : List (Place × Claim)) → IsVerdictOn taken v → IsVerdictOn (taken ++ more) v
+judged_stays Good more other taken told = absurd (other refl)
+judged_stays (Fails place at) more other taken told = first-append _ _ taken more told
+judged_stays (Undecided place why) more other taken told = first-append _ _ taken more told

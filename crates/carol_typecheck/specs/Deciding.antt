@@ -3,18 +3,12 @@ use Rattle.std.specs.Prelude.{◌≡◌, Result, Ok, Err, List, [], ◌∷◌, �
 use Rattle.std.specs.List.{AllByRecursion}
 use Rattle.std.specs.declared.alloc.AllocError.{AllocError}
 use Rattle.carol_formula.specs.Claim.{Claim}
-use Rattle.carol_formula.specs.Tree.{claim_of}
 use Rattle.carol_program.specs.declared.places.Place.{Place}
-use Rattle.carol_obligation.specs.Budget.{IsDecidable}
 use Rattle.carol_obligation.specs.Listed.{owed_of, owed_in}
 use Rattle.carol_obligation.specs.declared.list.Obligation.{Obligation}
 use Rattle.carol_typecheck.specs.declared.verdict.Verdict.{Verdict}
 use Rattle.carol_typecheck.specs.declared.verdict.Verdict.TheVariants.{Good, Fails, Undecided}
 use Rattle.carol_typecheck.specs.Formulas.{IsProved, IsVerdictOn}
-
--- each formula can be decided
-abbrev pub AreDecidable : List Obligation → Type 0
-AreDecidable list = AllByRecursion (λ o. IsDecidable (claim_of o.formula)) list
 
 -- the verdict on this one alone
 abbrev pub IsJudged : Obligation → Verdict → Type 0

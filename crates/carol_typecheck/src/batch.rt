@@ -1,13 +1,11 @@
-ghost use Rattle.std.specs.Prelude.{◌≡◌, ◌≤◌, [], ◌∷◌, ◌++◌, IfOk, OnOk};
+ghost use Rattle.std.specs.Prelude.{◌≡◌, [], ◌∷◌, ◌++◌, IfOk, OnOk};
 ghost use Rattle.carol_formula.specs.Tree.{claim_of};
 ghost use Rattle.carol_obligation.specs.Budget.{IsDecidable};
 ghost use Rattle.carol_obligation.specs.Listed.{owed_in};
-ghost use Rattle.carol_program.specs.WellFormed.{nodes};
 ghost use Rattle.carol_typecheck.specs.Formulas.{IsVerdictOn};
 
 use crate::judge::{judge_all, judge_shared};
 use crate::verdict::Verdict;
-use carol_formula::Formula;
 use carol_obligation::Obligation;
 use std::alloc::{AllocError, Global};
 use std::marker::Model;
@@ -20,20 +18,6 @@ const MOST_NODES: u32 = 262_144;
 
 // From how many nodes on it is worth a thread to decide them.
 const LEAST_SHARED: u32 = 512;
-
-// How many nodes the formula has.
-fn nodes_in(formula: &Formula) -> u32
-    requires { nodes (claim_of formula.now) ≤ 65535 }
-    ensures { result ≡ nodes (claim_of formula.now) }
-{
-    match formula {
-        Formula::And(one, other) | Formula::Or(one, other) => nodes_in(one.get())
-            + nodes_in(other.get())
-            + 1,
-        Formula::Not(inner) => nodes_in(inner.get()) + 1,
-        _ => 1,
-    }
-}
 
 /// Obligations that wait to be decided, and that can be.
 #[derive(Drop)]
@@ -48,7 +32,7 @@ impl Model for Batch {
     ghost use Rattle.std.specs.Coded.{coded_list};
     ghost use Rattle.carol_obligation.specs.contracts.list.Obligation.{the_row};
     ghost use Rattle.carol_obligation.specs.declared.list.Obligation.{Obligation};
-    ghost use Rattle.carol_typecheck.specs.Deciding.{AreDecidable};
+    ghost use Rattle.carol_obligation.specs.Keeping.{AreDecidable};
 
     ghost Value = { List Obligation };
 
@@ -80,7 +64,7 @@ impl Batch {
         requires { IsDecidable (claim_of obligation.formula) }
         ensures { OnOk result (self.new ≡ self.old ++ obligation ∷ []) }
     {
-        let nodes = nodes_in(&obligation.formula);
+        let nodes = obligation.formula.nodes();
         self.waiting.push(obligation)?;
         self.nodes = self.nodes.saturating_add(nodes);
         Ok(())

@@ -2,11 +2,12 @@ ghost use Rattle.std.specs.Prelude.{◌≡◌, IfOk};
 ghost use Rattle.carol_formula.specs.Tree.{claim_of};
 ghost use Rattle.carol_obligation.specs.Budget.{IsDecidable};
 ghost use Rattle.carol_obligation.specs.Listed.{owed_in};
-ghost use Rattle.carol_typecheck.specs.Deciding.{AreDecidable, IsJudged, first_of};
+ghost use Rattle.carol_obligation.specs.Keeping.{AreDecidable};
+ghost use Rattle.carol_typecheck.specs.Deciding.{IsJudged, first_of};
 ghost use Rattle.carol_typecheck.specs.Formulas.{IsVerdictOn};
 
-use crate::verdict::{MOST_LEAVES, Verdict};
-use carol_decide::{Answer, decide};
+use crate::verdict::Verdict;
+use carol_decide::{Answer, MOST_LEAVES, decide};
 use carol_obligation::Obligation;
 use rayon::prelude::*;
 use std::alloc::{AllocError, Global};
@@ -15,8 +16,8 @@ use std::thread::Threads;
 // Into how many pieces obligations are cut at the most.
 const MOST_PIECES: usize = 32;
 
-// The verdict on one formula: it is proved where its denial is refuted.
-fn judge(alloc: Global, obligation: &Obligation) -> Result<Verdict, AllocError>
+/// The verdict on one formula: it is proved where its denial is refuted.
+pub(crate) fn judge(alloc: Global, obligation: &Obligation) -> Result<Verdict, AllocError>
     requires { IsDecidable (claim_of obligation.now.formula) }
     ensures { IfOk result (IsJudged obligation.now) }
 {

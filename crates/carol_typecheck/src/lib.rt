@@ -12,27 +12,31 @@
 mod batch;
 mod decider;
 mod judge;
+mod judging;
 #[cfg(test)]
 mod tests;
 mod verdict;
 
-ghost use Rattle.std.specs.Prelude.{IfOk};
-ghost use Rattle.carol_program.specs.Rules.{rules_in};
-ghost use Rattle.carol_program.specs.WellFormed.{AreRules};
-ghost use Rattle.carol_typecheck.specs.Readings.{AreGood, IsFailure, IsVerdictFor};
+ghost use Rattle.std.specs.Prelude.{[], ◌∷◌, IfOk, length};
+ghost use Rattle.carol_program.specs.Rules.{op_rules, rules_in};
+ghost use Rattle.carol_program.specs.WellFormed.{AreRules, IsOpOver};
+ghost use Rattle.carol_reading.specs.Good.{IsGood};
+ghost use Rattle.carol_typecheck.specs.Readings.{AreGood, IsFailure, IsVerdictFor, IsVerdictOver};
 
 use crate::decider::Decider;
-use carol_obligation::walk_all;
-use carol_program::Program;
+use crate::judging::Judging;
+use carol_obligation::{walk, walk_all};
+use carol_program::{Op, Program};
 use std::alloc::{AllocError, Global};
 use std::thread::Threads;
-pub use verdict::{MOST_LEAVES, Verdict};
+pub use verdict::Verdict;
 
 /// Checks the operations of a program, which is well formed: whether each is good. The answer
 /// names the first place that isn't proved. `Good` says that every operation is good, and `Fails`
 /// never comes where each is. The formula of a place is decided in at most `MOST_LEAVES` turns,
-/// and where the decision ends for a reason before it finds either, the answer is `Undecided`. The
-/// only error is want of memory. None of this depends on how many threads there are.
+/// and where the decision of its denial ends for a reason before it finds either, the answer is
+/// `Undecided`. The only error is want of memory. None of this depends on how many threads there
+/// are.
 pub fn typecheck<R: Threads + Sync>(
     rt: &R,
     alloc: Global,
@@ -45,4 +49,26 @@ pub fn typecheck<R: Threads + Sync>(
     let mut decider = Decider::new(rt, alloc);
     walk_all(alloc, program, &mut decider)?;
     decider.verdict(alloc)
+}
+
+/// Checks one operation as if it stood in the program with this number, by the same rules. It need
+/// not be one of the program's own, but one over its cells and guards. It is checked by the caller
+/// alone.
+pub fn check_op(
+    alloc: Global,
+    program: &Program,
+    op: &Op,
+    number: u32,
+) -> Result<Verdict, AllocError>
+    requires rules { AreRules (rules_in program.now) }
+    requires op { let p = rules_in program.now in
+        IsOpOver p.shape (length p.guards) (op_rules op.now) }
+    ensures verdict { IfOk result
+        (IsVerdictOver (rules_in program.now) number (op_rules op.now ∷ [])) }
+    ensures fails { IfOk result
+        (λ v. IsFailure v → ¬ IsGood (rules_in program.now) (op_rules op.now)) }
+{
+    let mut judging = Judging::new();
+    walk(alloc, program, op, number, &mut judging)?;
+    Ok(judging.found)
 }

@@ -4,9 +4,6 @@ use carol_decide::Why;
 use carol_formula::Valuation;
 use carol_program::Place;
 
-/// How many turns the decision of one formula may take.
-pub const MOST_LEAVES: u32 = 20_000;
-
 /// What a type check says of a program.
 #[derive(Debug, Drop)]
 pub enum Verdict {

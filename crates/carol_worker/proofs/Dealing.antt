@@ -90,6 +90,7 @@ begins = (
     only : (pass : ℕ) (hand : Hand) → get_elem? (maker 0 ∷ []) pass ≡ some hand → hand.makes ≡ true → (pass ≡ 0) × (hand.count ≡ 0)
     only zero hand at makes = (refl, sym (ap (λ (h : Hand). h.count) (some-injective (maker 0) hand at)))
     only (suc pass) hand at makes = absurd (some-ne-none hand (sym at))
+
     none : (pass : ℕ) (hand : Hand) → get_elem? (maker 0 ∷ []) pass ≡ some hand → hand.count ≡ 0
     none zero hand at = sym (ap (λ (h : Hand). h.count) (some-injective (maker 0) hand at))
     none (suc pass) hand at = absurd (some-ne-none hand (sym at))

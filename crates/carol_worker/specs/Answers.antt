@@ -1,5 +1,6 @@
 -- What a desk keeps of the answers to its steps.
-use Rattle.std.specs.Prelude.{◌≡◌, ◌⊎◌, ◌∙◌, inl, inr, refl, ℕ, Option, Some, None, Result, Ok, Err}
+use Rattle.std.specs.Prelude.{◌≡◌, ◌⊎◌, ℕ, Option, Some, None, Result, Ok, Err}
+use Rattle.std.proofs.Common.{◌∙◌, inl, inr, refl}
 use Rattle.carol_outer.specs.Faults.{one_more}
 use Rattle.carol_house.specs.declared.moved.Moved.{Moved}
 use Rattle.carol_house.specs.declared.moved.Moved.TheVariants as moved

@@ -1,5 +1,6 @@
 -- What a step at a desk does to its house, whichever numbers it is asked for.
-use Rattle.std.specs.Prelude.{◌≡◌, ◌≢◌, ◌⊎◌, ◌≤◌, ◌<◌, ◌∙◌, refl, ℕ, length, Result, Ok, Err}
+use Rattle.std.specs.Prelude.{◌≡◌, ◌≢◌, ◌⊎◌, ◌≤◌, ◌<◌, ℕ, length, Result, Ok, Err}
+use Rattle.std.proofs.Common.{◌∙◌, refl}
 use Rattle.carol_history.specs.Acts.{acts}
 use Rattle.carol_history.specs.Legal.{MayLink}
 use Rattle.carol_house.specs.House.{House}

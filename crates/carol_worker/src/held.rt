@@ -65,10 +65,15 @@ pub struct Held<J: Start> {
 }
 
 impl<J: Start> Model for Held<J> {
+    ghost use Rattle.std.specs.Coded.{codes};
+    ghost use Rattle.carol_formula.specs.contracts.formula.Formula as formula;
+    ghost use Rattle.carol_program.specs.contracts.steps.Step as step;
     ghost use Rattle.carol_house.specs.House.{House};
     ghost use Rattle.carol_worker.specs.Running.{Continues};
 
     ghost Value = { House };
+
+    ghost coded = { Prim.hlevel (codes, formula.the_row.coded, step.the_row.coded) };
 
     ghost view = { λ h. h.house };
 

@@ -193,7 +193,7 @@ impl House {
 }
 
 /// The event that joins the replicas, or cuts them off from each other where `up` is false.
-pub(crate) fn link_event(a: u32, b: u32, up: bool) -> Event
+pub fn link_event(a: u32, b: u32, up: bool) -> Event
     ensures { result ≡ link_event a b up }
 {
     if up {

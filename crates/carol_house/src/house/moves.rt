@@ -114,8 +114,8 @@ impl House {
     }
 }
 
-// The number that stands for the event's kind.
-fn kind_of(event: &Event) -> u8
+/// The number that stands for the event's kind, as `Moved::Entered` tells it.
+pub fn kind_of(event: &Event) -> u8
     ensures { result ≡ kind_of event.now }
 {
     match event {

@@ -7,8 +7,8 @@ use Rattle.carol_store.specs.declared.direction.Direction.{Direction}
 use Rattle.carol_formula.specs.Claim.{Claim}
 use Rattle.carol_formula.specs.Tree.{claim_of}
 use Rattle.carol_program.specs.Accords.{HasWay}
-use Rattle.carol_program.specs.WellFormed.{nodes}
-use Rattle.carol_accord.specs.Parts.{IsLight, IsGuard, most_formula}
+use Rattle.carol_formula.specs.Size.{nodes_of, IsLight}
+use Rattle.carol_accord.specs.Parts.{IsGuard, most_formula}
 use Rattle.carol_accord.proofs.Ended.{step_yes, step_no, step_open}
 use Rattle.carol_accord.proofs.Light.{step_light, step_nodes}
 use Rattle.carol_accord.proofs.Listed.{way-within}
@@ -37,7 +37,7 @@ pub decided-requires-clause-small : goal.decided-requires-clause-small
 decided-requires-clause-small c =
     let kinds = c.kinds-kinds.result.now
     in let g : IsGuard kinds (claim_of c.args.guard.now) = subst (λ ks. IsGuard ks (claim_of c.args.guard.now)) (sym c.kinds-kinds.ensures.kinds) c.requires.guard
-    in subst (λ (d : Claim). nodes d ≤ most_formula) (sym c.in_ok-formula.ensures) (step_nodes kinds (claim_of c.args.guard.now) (get_or kinds c.args.step.cell Counter) c.args.step g)
+    in subst (λ (d : Claim). nodes_of d ≤ most_formula) (sym c.in_ok-formula.ensures) (step_nodes kinds (claim_of c.args.guard.now) (get_or kinds c.args.step.cell Counter) c.args.step g)
 
 pub returns-in-Unsat-clause-ok : goal.returns-in-Unsat-clause-ok
 returns-in-Unsat-clause-ok c =

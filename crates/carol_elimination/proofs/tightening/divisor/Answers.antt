@@ -16,6 +16,7 @@ returns c =
     let value = same c.args.a c.args.b c.loop-rest.last c.loop-rest.rest c.loop-rest.invariant c.loop-rest-test.false in
     record {
       value = value;
+      greatest = c.loop-rest.invariant c.loop-rest.last (IsGcd-from_zero c.loop-rest.last c.loop-rest.rest c.loop-rest-test.false);
       positive = λ h. rw value (divisor-positive c.args.a c.args.b h);
       bounded = rw value (divisor-le c.args.a c.args.b);
     }

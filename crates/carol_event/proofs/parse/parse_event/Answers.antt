@@ -12,6 +12,9 @@ column-requires-clause-near c = (bad_near c.args.line.now c.in-Err.bad.left c.in
 pub returns-in-Ok-clause-found : goal.returns-in-Ok-clause-found
 returns-in-Ok-clause-found c = (event_take c.args.line.now c.in-Ok.event c.in-Ok.ensures).1
 
+pub returns-in-Ok-clause-numbers : goal.returns-in-Ok-clause-numbers
+returns-in-Ok-clause-numbers c = (event_take c.args.line.now c.in-Ok.event c.in-Ok.ensures).0
+
 pub returns-in-Ok-clause-only : goal.returns-in-Ok-clause-only
 returns-in-Ok-clause-only c = λ event fits is. same_event c.args.line.now c.in-Ok.event event fits is c.in-Ok.ensures
 

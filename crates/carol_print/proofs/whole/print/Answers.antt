@@ -14,4 +14,4 @@ returns-clause-file c =
 pub returns-clause-read_back : goal.returns-clause-read_back
 returns-clause-read_back c =
     let e : c.push_file.new.out.items ≡ text_of (canonical (file_tree c.args.file.now)) = search rules in
-    subst (λ t. IsReadBack t (file_tree c.args.file.now)) (sym e) (text_is_read_back c.canonical_is_laid_out.ensures c.laid_out.ensures c.canonical_is_read.ensures c.one_text.ensures c.one_bad.ensures.none (file_tree c.args.file.now) c.requires)
+    subst (λ t. IsReadBack t (file_tree c.args.file.now)) (sym e) (text_is_read_back c.canonical_is_laid_out.ensures c.laid_out.ensures c.canonical_is_read.ensures c.one_text.ensures c.one_bad.ensures.none c.one_outcome.ensures c.small_is_read.ensures (file_tree c.args.file.now) c.requires)

@@ -1,7 +1,8 @@
 use Rattle.std.proofs.Common.{◌≡◌, ◌≤◌, ◌+◌, length}
 use Rattle.std.specs.List.{AllByRecursion}
 use Rattle.carol_syntax.specs.Shape as shape
-use Rattle.carol_syntax.specs.Size.{IsSizedStatement, most_items}
+use Rattle.carol_syntax.specs.Size.{most_items}
+use Rattle.carol_meaning.specs.Sizes.{IsShortStatement}
 use Rattle.carol_program.specs.Bodies.{Body}
 use Rattle.carol_meaning.specs.Faults.{earliest}
 use Rattle.carol_meaning.specs.Bodies.{behind, plain_faults, chain}
@@ -15,7 +16,7 @@ invariant-loop-statement l = record {
   place : behind l.around l.at l.left ≡ behind l.around l.fn.at l.plain;
   number : l.at.number + length l.left ≤ most_items + 1;
   shape : AllByRecursion shape.IsStatement l.left;
-  sized : AllByRecursion IsSizedStatement l.left;
+  sized : AllByRecursion IsShortStatement l.left;
 }
 
 abbrev pub decreases-loop-statement : goal.decreases-loop-statement

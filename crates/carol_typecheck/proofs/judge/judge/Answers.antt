@@ -4,8 +4,9 @@ use Rattle.carol_formula.specs.Claim.{ClaimWithin}
 use Rattle.carol_formula.specs.Numbers.{number_at}
 use Rattle.carol_formula.specs.Tree.{claim_of}
 use Rattle.carol_decide.specs.Answer.{IsAnswer, Settles}
-use Rattle.carol_typecheck.specs.declared.verdict.TheConstants.{MOST_LEAVES}
-use Rattle.carol_typecheck.proofs.Judging.{narrow_light, narrow_without_not, small_denial, valid_refuted, false_at, open_for}
+use Rattle.carol_decide.specs.declared.answer.TheConstants.{MOST_LEAVES}
+use Rattle.carol_formula.proofs.Light.{narrow_light, narrow_without_not}
+use Rattle.carol_typecheck.proofs.Judging.{small_denial, valid_refuted, false_at, stuck_for}
 use Rattle.carol_typecheck.proofs.judge.judge.Goals as goal
 
 pub denial_form-requires : goal.denial_form-requires
@@ -34,7 +35,7 @@ pub returns : goal.returns
 returns c =
     inl (
       refl,
-      open_for (claim_of c.args.obligation.now.formula) (claim_of c.in_ok-denial.denial) c.in-Undecided.why c.in_ok-denial.ensures.truth
+      stuck_for (claim_of c.args.obligation.now.formula) (claim_of c.in_ok-denial.denial) c.in-Undecided.why c.in_ok-denial.ensures.form
           (subst (IsAnswer (claim_of c.in_ok-denial.denial) MOST_LEAVES) c.in-Undecided.is c.in_ok-decide.ensures.answer)
           (subst (Settles (claim_of c.in_ok-denial.denial) MOST_LEAVES) c.in-Undecided.is c.in_ok-decide.ensures.settles),
     )

@@ -1,5 +1,5 @@
 use Rattle.std.proofs.Common.{sym, ap, ◌∙◌, subst}
-use Rattle.carol_typecheck.specs.Deciding.{AreDecidable}
+use Rattle.carol_obligation.specs.Keeping.{AreDecidable}
 use Rattle.carol_typecheck.proofs.Scanning.{decidable_pieces, told_of_all}
 use Rattle.carol_typecheck.proofs.judge.judge_shared.Goals as goal
 

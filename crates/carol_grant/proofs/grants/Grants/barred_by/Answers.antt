@@ -1,4 +1,4 @@
-use Rattle.std.proofs.Common.{◌≡◌, true, Some, sym, ◌∙◌}
+use Rattle.std.proofs.Common.{◌≡◌, true, Some, refl, sym, ◌∙◌}
 use Rattle.std.specs.Prelude.{slice_get}
 use Rattle.carol_store.specs.Directions.{directions}
 use Rattle.carol_grant.specs.Kept.{IsRow, lives}
@@ -29,7 +29,7 @@ returns-then-agrees c =
 pub first_bar-requires-clause-ways : goal.first_bar-requires-clause-ways
 first_bar-requires-clause-ways c =
     let f = c.self.inside
-    in rw (← c.self.view_is, c.as_slice-ways.ensures.items, c.directions-directions.ensures, ← c.self.invariant.shape) (AreWays-directions f.accords.kinds c.args.effect.now)
+    in rw (← c.self.view_is, c.as_slice-ways.ensures.items, c.directions-directions.ensures, c.self.invariant.shape) refl
 
 pub first_bar-requires-clause-cells : goal.first_bar-requires-clause-cells
 first_bar-requires-clause-cells c =

@@ -11,7 +11,7 @@ loop-holder-preserved c =
     in elim c.if-holder-session.branch [
       | then-holder-session+in_default w ↦
           let free = rw (c.deref-row-items.ensures.value, ← c.self.view_is) at w.in_default.ensures
-          in rw (← c.self.view_is) (scan_next f.accords f.rows.items c.args.ways.now c.args.session c.loop-holder.holder before (λ g _. scan_row f.accords f.rows.items c.args.ways.now c.loop-holder.holder _ inside free g))
+          in rw (← c.self.view_is) (scan_next f.accords f.rows.items c.args.effect.now c.args.session c.loop-holder.holder before (λ g _. scan_row f.accords f.rows.items c.args.effect.now c.loop-holder.holder _ inside free g))
       | else-holder-session w ↦
-          rw (← c.self.view_is) (scan_next f.accords f.rows.items c.args.ways.now c.args.session c.loop-holder.holder before (λ g apart. absurd (apart w.if-holder-session.false)))
+          rw (← c.self.view_is) (scan_next f.accords f.rows.items c.args.effect.now c.args.session c.loop-holder.holder before (λ g apart. absurd (apart w.if-holder-session.false)))
     ]

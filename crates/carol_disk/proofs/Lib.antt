@@ -1,0 +1,4 @@
+pub mod GateLemmas
+pub mod Moments
+pub mod Overlaying
+pub mod Syncing

@@ -1,0 +1,5 @@
+pub mod Disk
+pub mod Gates
+pub mod Laws
+pub mod Tapes
+pub mod Windows

@@ -1,0 +1,5 @@
+pub mod Finding
+pub mod Laws
+pub mod Opening
+pub mod Steps
+pub mod Vaults

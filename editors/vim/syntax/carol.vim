@@ -1,0 +1,1 @@
+../../../crates/carol_editors/data/carol.vim
