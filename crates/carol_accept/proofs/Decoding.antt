@@ -1,6 +1,6 @@
 -- Numbers whose lines are the same are the same.
-use Rattle.std.proofs.Common.{◌≡◌, ℕ, zero, suc, ◌+◌, ◌≤◌, ◌<◌, ◌^◌, true, false, ◌⊎◌, inl, inr, List, [], ◌∷◌, ◌++◌, Ok, refl, sym, ◌∙◌, ap, subst, append_assoc, arith}
-use Rattle.std.specs.Prelude.{ℤ, pos, negsuc, codes, if◌then◌else◌, unsigned_abs}
+use Rattle.std.proofs.Common.{◌≡◌, ℕ, zero, suc, ◌+◌, ◌≤◌, ◌<◌, ◌^◌, ◌⊎◌, inl, inr, List, [], ◌∷◌, ◌++◌, Ok, refl, sym, ◌∙◌, ap, subst, append_assoc, arith}
+use Rattle.std.specs.Prelude.{ℤ, pos, negsuc, codes, unsigned_abs}
 use Rattle.std.specs.List.{AllByRecursion}
 use Rattle.std.specs.Fmt.{signed_decimal}
 use Rattle.std.proofs.lemmas.List.{append_cancel_left}
@@ -9,6 +9,7 @@ use Rattle.carol_formula.specs.Bounds.{AreNear}
 use Rattle.carol_program.specs.Variables.{query_variable}
 use Rattle.carol_text.specs.Number.{IsWithin, integer_at}
 use Rattle.carol_text.proofs.Numbers.{integer_again}
+use Rattle.carol_text.proofs.Words.{ok_parts}
 use Rattle.carol_obligation.specs.Decoded.{round_variable}
 use Rattle.carol_obligation.proofs.Alike.{SameFrom}
 use Rattle.carol_accept.specs.declared.trail.Asked.{Asked}
@@ -22,13 +23,17 @@ within : (z : ℤ) → unsigned_abs z ≤ most → IsWithin most most z
 within (pos n) h = h
 within (negsuc n) h = h
 
+tails : {c d : ℕ} {xs ys : List ℕ} → c ∷ xs ≡ d ∷ ys → xs ≡ ys
+tails e = cc
+
 -- the number in front of a line feed
 signed_parts : (a b : ℤ) (x y : List ℕ) → unsigned_abs a ≤ most → unsigned_abs b ≤ most → signed_decimal a ++ 10 ∷ x ≡ signed_decimal b ++ 10 ∷ y → (a ≡ b) × (x ≡ y)
 signed_parts a b x y ha hb e =
     let one = integer_again most most a (10 ∷ x) (omega arith) (omega arith) (within a ha) refl
     in let two = integer_again most most b (10 ∷ y) (omega arith) (omega arith) (within b hb) refl
     in let same : Ok (a, 10 ∷ x) ≡ Ok (b, 10 ∷ y) = sym one ∙ ap (integer_at most most) e ∙ two
-    in (cc, cc)
+    in let parts = ok_parts a b (10 ∷ x) (10 ∷ y) same
+    in (parts.0, tails parts.1)
 
 nested : (name : List ℕ) (a : ℤ) (x : List ℕ) → line_text name a ++ x ≡ name ++ (codes " = " ++ (signed_decimal a ++ 10 ∷ x))
 nested name a x =
@@ -60,7 +65,7 @@ module _ (name : ℕ → List ℕ) (f g : ℕ → ℤ) (near_f : AreNear (2 ^ 12
   queries_parts cells (a ∷ asked) x y e =
       let base = query_variable a.slot 0
       in let first = numbers_parts cells base base (queries_text name f cells asked ++ x) (queries_text name g cells asked ++ y)
-          (sym (append_assoc (own_text name f cells base) (queries_text name f cells asked) x) ∙ e ∙ append_assoc (own_text name g cells base) (queries_text name g cells asked) y)
+      (sym (append_assoc (own_text name f cells base) (queries_text name f cells asked) x) ∙ e ∙ append_assoc (own_text name g cells base) (queries_text name g cells asked) y)
       in let more = queries_parts cells asked x y first.1
       in ((first.0, more.0), more.1)
 

@@ -1,8 +1,7 @@
 -- What is refused isn't accepted.
-use Rattle.std.proofs.Common.{◌≡◌, ℕ, true, false, List, [], ◌∷◌, ◌++◌, subst}
+use Rattle.std.proofs.Common.{ℕ, List, [], ◌∷◌, ◌++◌, subst}
 use Rattle.std.specs.Prelude.{ℤ}
 use Rattle.std.specs.List.{AllByRecursion}
-use Rattle.carol_formula.specs.Claim.{Claim}
 use Rattle.carol_program.specs.Rules.{Rules}
 use Rattle.carol_reading.specs.Good.{IsAccepted, IsReflexive}
 use Rattle.carol_accord.specs.Broken.{here_of}

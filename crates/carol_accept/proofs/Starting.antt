@@ -1,5 +1,5 @@
 -- The invariant can be added up at a store of words.
-use Rattle.std.proofs.Common.{ℕ, zero, suc, ◌≤◌, [], ◌∷◌, List, arith}
+use Rattle.std.proofs.Common.{zero, suc, ◌≤◌, [], ◌∷◌, List, arith}
 use Rattle.std.specs.Prelude.{ℤ, pos, negsuc, unsigned_abs}
 use Rattle.carol_store.specs.Kinds.{CellValue, IsWord}
 use Rattle.carol_store.specs.Stores.{AreWords}

@@ -1,30 +1,29 @@
 -- The lines at a place tell whether the numbers are a breach there.
-use Rattle.std.proofs.Common.{◌≡◌, ℕ, zero, suc, ◌+◌, ◌≤◌, ◌<◌, ◌^◌, Bool, true, false, cond, eqb, List, [], ◌∷◌, ◌++◌, length, refl, sym, ◌∙◌, ap, subst, append_assoc, arith}
-use Rattle.std.specs.Prelude.{◌↔◌, ℤ, map, Option, Some, None, slice_get}
+use Rattle.std.proofs.Common.{◌≡◌, ℕ, zero, suc, ◌+◌, ◌≤◌, ◌^◌, Bool, true, false, cond, eqb, List, [], ◌∷◌, ◌++◌, length, refl, sym, ◌∙◌, ap, subst, append_assoc, arith}
+use Rattle.std.specs.Prelude.{ℤ, map, Option, Some, slice_get}
 use Rattle.std.specs.List.{AllByRecursion}
 use Rattle.std.proofs.lemmas.Bool.{eq-eqb}
 use Rattle.std.proofs.lemmas.List.{append-nil}
-use Rattle.carol_store.specs.declared.shape.CellKind.{CellKind}
 use Rattle.carol_formula.specs.Bounds.{AreNear}
 use Rattle.carol_program.specs.declared.names.Names.{Names}
 use Rattle.carol_program.specs.declared.places.Place.{Place}
 use Rattle.carol_program.specs.Rules.{Rules, OpRules}
 use Rattle.carol_program.specs.Variables.{query_variable}
-use Rattle.carol_program.specs.WellFormed.{AreRules, IsOpOver}
+use Rattle.carol_program.specs.WellFormed.{IsOpOver}
 use Rattle.carol_obligation.specs.Ways.{Way, Asks, Puts, Frees, Tests, rounds_of, has_query}
 use Rattle.carol_obligation.specs.Sites.{Ending, Amount, After, Gives, Site}
 use Rattle.carol_obligation.specs.Decoded.{round_variable}
 use Rattle.carol_obligation.specs.Breaches.{HasTies, IsBreach}
 use Rattle.carol_obligation.specs.Places.{place_of, sites_of}
-use Rattle.carol_obligation.specs.Spots.{Spot, spot_at, place_at, spots_from, spots_of}
+use Rattle.carol_obligation.specs.Spots.{Spot, spot_at, spots_from}
 use Rattle.carol_obligation.proofs.Alike.{IsFitSite, SameAlong, SameFrom, breach_as, fit_sites}
 use Rattle.carol_obligation.proofs.Each.{all-append, all-map, all_both}
 use Rattle.carol_obligation.proofs.Spots.{AreOver}
 use Rattle.carol_accept.specs.declared.trail.Asked.{Asked}
 use Rattle.carol_accept.specs.declared.trail.Trail.{Trail}
 use Rattle.carol_accept.specs.Trails.{start, trail_of, trail_to}
-use Rattle.carol_accept.specs.Lines.{asks_in, lines_text, own_text, queries_text, rounds_text, shown_for, statement_lines, trail_text}
-use Rattle.carol_accept.specs.LineLaws.{AreShown, IsToldByLines, IsTrailed, LinesTell, TrailsAreWays}
+use Rattle.carol_accept.specs.Lines.{asks_in, lines_text, own_text, rounds_text, shown_for, statement_lines, trail_text}
+use Rattle.carol_accept.specs.LineLaws.{IsToldByLines, IsTrailed, LinesTell, TrailsAreWays}
 use Rattle.carol_accept.specs.Named.{variable_text}
 use Rattle.carol_accept.proofs.Decoding.{numbers_parts, queries_parts, rounds_parts}
 use Rattle.carol_accept.proofs.Trailing.{Found, found_sites}
@@ -103,9 +102,9 @@ module _ (p : Rules) (names : Names) (place : Place) (op : OpRules) (site : Site
       in let queries = queries_parts name f g near_f near_g cells t.asked (rounds_text name f cells t (t.rounds + 1) 0) (rounds_text name g cells t (t.rounds + 1) 0) params.1
       in let rounds = rounds_parts name f g near_f near_g cells t (t.rounds + 1) 0 queries.1
       in let own : (r : ℕ) → r ≤ rounds_of site.way → asks_in r t.asked ≡ true → SameFrom f g (round_variable r 0) cells =
-          λ r low h. subst (λ (n : ℕ). SameFrom f g (round_variable n 0) cells) (shown-own t r h) (rounds r (omega arith) (omega (arith, low, rounds_same site.way)))
+      λ r low h. subst (λ (n : ℕ). SameFrom f g (round_variable n 0) cells) (shown-own t r h) (rounds r (omega arith) (omega (arith, low, rounds_same site.way)))
       in let open_round : SameFrom f g (round_variable (rounds_of site.way) 0) cells =
-          subst (λ (n : ℕ). SameFrom f g (round_variable n 0) cells) (shown-last t ∙ rounds_same site.way) (rounds t.rounds (omega arith) (omega arith))
+      subst (λ (n : ℕ). SameFrom f g (round_variable n 0) cells) (shown-last t ∙ rounds_same site.way) (rounds t.rounds (omega arith) (omega arith))
       in breach_as p op site f g fit params.0 (same_along cells (rounds_of site.way) f g t.asked queries.0 own site.way [] (omega arith) (append-nil t.asked)) open_round ties
 
 lines_at : (p : Rules) (names : Names) (number n : ℕ) (ending : Ending) (f : ℕ → ℤ) → lines_text p names (place_of number n ending) f ≡ statement_lines (variable_text names (place_of number n ending)) f (length p.shape) n (slice_get p.ops number)

@@ -1,5 +1,5 @@
 -- The search for the statement of a place finds the trail of the way to it.
-use Rattle.std.proofs.Common.{◌≡◌, ℕ, ◌+◌, ◌≤◌, ◌<◌, true, false, cond, List, [], ◌∷◌, ◌++◌, refl, sym, ◌∙◌, ap, subst, arith}
+use Rattle.std.proofs.Common.{◌≡◌, ℕ, ◌+◌, ◌≤◌, ◌<◌, Bool, true, false, cond, List, [], ◌∷◌, refl, sym, ◌∙◌, ap, arith}
 use Rattle.std.specs.Prelude.{Option, Some, None, slice_get}
 use Rattle.std.specs.List.{AllByRecursion}
 use Rattle.std.proofs.lemmas.Bool.{ne_eqb}
@@ -38,7 +38,7 @@ not_there wanted low (Branch number test first second) t h lt =
     let one = rises_last (number + 1) first h.1
     in let last = rises_last (last_number first + 1) second h.2
     in let none : or_else (trail_to wanted first t) (trail_to wanted second t) ≡ None =
-        ap (λ (o : Option Trail). or_else o (trail_to wanted second t)) (not_there wanted (number + 1) first t h.1 (omega (arith, lt, last))) ∙ not_there wanted (last_number first + 1) second t h.2 lt
+    ap (λ (o : Option Trail). or_else o (trail_to wanted second t)) (not_there wanted (number + 1) first t h.1 (omega (arith, lt, last))) ∙ not_there wanted (last_number first + 1) second t h.2 lt
     in skips _ t _ (ne_eqb number wanted (λ e. omega (arith, e, lt, one, last))) none
 not_there wanted low (Return number value) t h lt = skips _ t _ (ne_eqb number wanted (λ e. omega (arith, e, lt))) refl
 
@@ -95,8 +95,7 @@ module _ (kinds : List CellKind) where
       in let last = rises_last (number + 1) next h.1
       in let there = first_there low whole way h.0 (omega (arith, last))
       in all-append (Found low whole t) (amount_sites kinds way number 1 parts) (record { way = way; number = number; ending = After parts } ∷ sites kinds next (Puts parts ∷ way))
-      (amounts_found (Found low whole t) way number 1 parts there)
-      (
+      (amounts_found (Found low whole t) way number 1 parts there) (
         there _ refl refl,
         all_both _ _ (behind_first low number whole next t (behind_closing t) h.0 (omega arith) (λ wanted ne. sym (goes _ t (trail_to wanted next (behind_closing t)) _ (ne_eqb number wanted ne) refl)))
             (sites kinds next (Puts parts ∷ way)) (found_sites (number + 1) next (Puts parts ∷ way) h.1),

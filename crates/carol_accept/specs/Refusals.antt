@@ -3,16 +3,14 @@ use Rattle.std.specs.Prelude.{◌≡◌, ◌⊎◌}
 use Rattle.std.specs.List.{AllByRecursion}
 use Rattle.carol_formula.specs.Numbers.{number_at}
 use Rattle.carol_program.specs.declared.program.Program.{Program}
-use Rattle.carol_program.specs.declared.places.Place.{Place}
 use Rattle.carol_program.specs.Accords.{Accords, IsTable}
 use Rattle.carol_program.specs.Preserving.{IsRight}
 use Rattle.carol_program.specs.Rules.{Rules, rules_in}
-use Rattle.carol_reading.specs.Good.{IsAccepted, IsReflexive}
+use Rattle.carol_reading.specs.Good.{IsReflexive}
 use Rattle.carol_reading.specs.Kept.{Kept, MayBeKept}
 use Rattle.carol_reading.specs.Rounds.{MeetsInvariant}
-use Rattle.carol_decide.specs.declared.answer.Why.{Why}
 use Rattle.carol_accord.specs.Inferred.{HasWitnesses, IsNotReflexive, IsOpenAt}
-use Rattle.carol_typecheck.specs.Readings.{AreGood, IsVerdictFor}
+use Rattle.carol_typecheck.specs.Readings.{IsVerdictFor}
 use Rattle.carol_typecheck.specs.declared.verdict.Verdict.TheVariants as verdict
 use Rattle.carol_accept.specs.declared.refused.Refused.{Refused}
 use Rattle.carol_accept.specs.declared.refused.Refused.TheVariants.{InitialFails, NotReflexive, Fails, Undecided, NoMemory}

@@ -31,7 +31,8 @@ fn push_place_line(out: &mut Vec<u8>, names: &Names, place: Place) -> Result<(),
 
 // Appends why it is undecided.
 fn push_why(out: &mut Vec<u8>, names: &Names, place: Place, why: &Why) -> Result<(), AllocError>
-    ensures { OnOk result (out.new.items ≡ out.old.items ++ line (why_text names.now place why.now)) }
+    ensures { OnOk result (out.new.items ≡ out.old.items
+        ++ line (why_text names.now place why.now)) }
 {
     match why {
         Why::Leaves(_) => {

@@ -1,5 +1,5 @@
 -- What the answer to the form without `Not` says of the formula.
-use Rattle.std.proofs.Common.{ℕ, ◌≡◌, [], ◌∷◌, Result, Ok, Err, sym, ◌∙◌, subst}
+use Rattle.std.proofs.Common.{ℕ, ◌≡◌, true, [], ◌∷◌, Result, Ok, Err, sym, ◌∙◌, subst}
 use Rattle.carol_formula.specs.Claim.{Claim, truth, without_not}
 use Rattle.carol_formula.specs.Numbers.{number_at}
 use Rattle.std.specs.Prelude.{ℤ, IfOk}

@@ -18,7 +18,6 @@ use Rattle.carol_program.specs.WellFormed.{AreRules, IsFormulaOver}
 use Rattle.carol_reading.specs.Good.{IsReflexive}
 use Rattle.carol_accord.specs.declared.error.AccordError.{AccordError}
 use Rattle.carol_accord.specs.declared.error.AccordError.TheVariants.{NotReflexive, Undecided, NoMemory}
-use Rattle.carol_accord.specs.Broken.{BreaksStep}
 use Rattle.carol_accord.specs.Inferred.{IsSettled, IsDecided, ComesTo, ComesToStep, IsStepReason, step_of, steps_of, FailsReflexive, StaysUndecided, HasWitnesses}
 use Rattle.carol_accord.specs.Parts.{IsGuard, IsEntry, AreEntries, IsAccord, AreAll, StopsStep, Stops}
 use Rattle.carol_accord.proofs.Listed.{all-at, length-steps, step-place}

@@ -5,8 +5,7 @@ use Rattle.std.proofs.lemmas.Nat.{mul-le}
 use Rattle.carol_store.specs.declared.shape.CellKind.{CellKind}
 use Rattle.carol_store.specs.declared.shape.CellKind.TheVariants.{Counter, Peak, Flag}
 use Rattle.carol_store.specs.declared.direction.Direction.{Direction}
-use Rattle.carol_formula.specs.Bounds.{narrow_limit}
-use Rattle.carol_formula.specs.Claim.{Claim, True, False, Le, Eq, Ne, And, Or, Not, EachTerm, ClaimWithin, without_not}
+use Rattle.carol_formula.specs.Claim.{Claim, True, False, Le, Eq, Ne, And, Or, Not, EachTerm}
 use Rattle.carol_formula.specs.Linear.{Linear, IsWithin, difference_of, variable_of, constant_of}
 use Rattle.carol_formula.specs.Weight.{mass, weight}
 use Rattle.carol_formula.proofs.Weights.{weight-sum_of, weight-difference_of, IsWithin-weight}

@@ -1,14 +1,25 @@
 -- The steps in order.
-use Rattle.std.proofs.Common.{◌≡◌, ℕ, zero, suc, ◌+◌, ◌<◌, Bool, true, false, List, [], ◌∷◌, ◌++◌, length, arith, refl, ◌∙◌, ap, subst}
+use Rattle.std.proofs.Common.{◌≡◌, ℕ, zero, suc, ◌+◌, ◌<◌, Bool, true, false, List, [], ◌∷◌, ◌++◌, length, map, arith, refl, sym, ◌∙◌, ap, subst, append_assoc}
 use Rattle.std.specs.Prelude.{Some, slice_get}
 use Rattle.std.specs.List.{AllByRecursion}
 use Rattle.std.proofs.lemmas.Bool.{false≢true}
+use Rattle.std.proofs.lemmas.List.{append-nil}
 use Rattle.carol_store.specs.declared.shape.CellKind.{CellKind}
 use Rattle.carol_store.specs.declared.shape.CellKind.TheVariants.{Counter, Peak, Flag}
 use Rattle.carol_store.specs.declared.direction.Direction.{Direction}
 use Rattle.carol_store.specs.Kinds.{can_go, ways}
 use Rattle.carol_program.specs.Accords.{HasWay, row_length, place_of}
 use Rattle.carol_accord.specs.Inferred.{steps_before, steps_from, steps_of, step_of}
+
+-- ---- the ways of one cell
+
+pub stepped_on : (steps : List Direction) (cell : ℕ) (up : Bool) (left more : List Bool) (whole : List Direction) → left ≡ up ∷ more → steps ++ (map (step_of cell) left ++ []) ≡ whole → (steps ++ step_of cell up ∷ []) ++ (map (step_of cell) more ++ []) ≡ whole
+stepped_on steps cell up left more whole is h =
+    append_assoc steps (step_of cell up ∷ []) (map (step_of cell) more ++ []) ∙ subst (λ (ups : List Bool). steps ++ (map (step_of cell) ups ++ []) ≡ whole) is h
+
+pub stepped_end : (steps : List Direction) (cell : ℕ) (left : List Bool) (whole : List Direction) → length left ≡ 0 → steps ++ (map (step_of cell) left ++ []) ≡ whole → steps ≡ whole
+stepped_end steps cell [] whole none h = sym (append-nil steps) ∙ h
+stepped_end steps cell (up ∷ left) whole none h = absurd (omega arith)
 
 -- ---- the list of steps
 

@@ -1,5 +1,5 @@
 -- What numbers for a guard's variables break: the guard at two equal stores, or one step that is to keep it.
-use Rattle.std.specs.Prelude.{◌≡◌, ℕ, ◌+◌, false, List, [], ◌∷◌, ℤ}
+use Rattle.std.specs.Prelude.{◌≡◌, ℕ, false, List, ℤ}
 use Rattle.carol_store.specs.declared.shape.CellKind.{CellKind}
 use Rattle.carol_store.specs.declared.direction.Direction.{Direction}
 use Rattle.carol_store.specs.Kinds.{CellValue}
@@ -21,9 +21,14 @@ pub record BreaksEqual (kinds : List CellKind) (guard : Claim) (f : ℕ → ℤ)
   pub store : IsStore kinds (here_of kinds f)
   pub fails : truth guard (number_in_two (here_of kinds f) (here_of kinds f)) ≡ false
 
--- the guard is true of the two stores, and false after one step in the global one
-pub record BreaksStep (kinds : List CellKind) (guard : Claim) (direction : Direction) (f : ℕ → ℤ) : Type 0 where
+-- the guard is true of the two stores, and false after the step in the global one
+pub record BreaksAfter
+    (kinds : List CellKind) (guard : Claim) (step : List CellValue → List CellValue) (f : ℕ → ℤ) : Type 0 where
   pub here : IsStore kinds (here_of kinds f)
   pub there : IsStore kinds (there_of kinds f)
   pub before : Guards guard (here_of kinds f) (there_of kinds f)
-  pub after : truth guard (number_in_two (here_of kinds f) (unit_step kinds direction (there_of kinds f))) ≡ false
+  pub after : truth guard (number_in_two (here_of kinds f) (step (there_of kinds f))) ≡ false
+
+-- so it is with one step in the direction
+abbrev pub BreaksStep : List CellKind → Claim → Direction → (ℕ → ℤ) → Type 0
+BreaksStep kinds guard direction f = BreaksAfter kinds guard (unit_step kinds direction) f

@@ -47,8 +47,12 @@ stepped_name Flag up v = constant_of (pos 1)
 abbrev pub step_name : CellKind → Direction → ℕ → Linear
 step_name kind direction v = if v == there_variable direction.cell then stepped_name kind direction.up v else variable_of v
 
--- the guard is true of two stores, and false after a step in the global one, of a cell of this kind
-abbrev pub step_claim : List CellKind → Claim → CellKind → Direction → Claim
-step_claim kinds guard kind direction =
+-- the guard is true of two stores, and false where the cells are what the naming says
+abbrev pub after_claim : List CellKind → Claim → (ℕ → Linear) → Claim
+after_claim kinds guard name =
     And (And (flags kinds (cell_variable 0)) (flags kinds (there_variable 0)))
-    (And guard (Not (named_claim (step_name kind direction) guard)))
+    (And guard (Not (named_claim name guard)))
+
+-- so it is after a step in the global store, of a cell of this kind
+abbrev pub step_claim : List CellKind → Claim → CellKind → Direction → Claim
+step_claim kinds guard kind direction = after_claim kinds guard (step_name kind direction)

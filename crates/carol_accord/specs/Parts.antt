@@ -1,5 +1,5 @@
 -- What the parts of the work answer: one formula, one step and one guard.
-use Rattle.std.specs.Prelude.{◌≡◌, ◌<◌, ◌≤◌, ◌^◌, ℕ, true, false, List, [], ◌∷◌, ◌++◌, length, ℤ}
+use Rattle.std.specs.Prelude.{◌≡◌, ◌≤◌, ℕ, true, false, List, [], ◌∷◌, ◌++◌, length, ℤ}
 use Rattle.carol_store.specs.declared.shape.CellKind.{CellKind}
 use Rattle.carol_store.specs.declared.direction.Direction.{Direction}
 use Rattle.carol_formula.specs.Claim.{Claim, truth, without_not}

@@ -8,8 +8,10 @@ use std::alloc::{AllocError, Global};
 fn push_steps(steps: &mut Vec<Direction>, cell: u32, kind: CellKind) -> Result<(), AllocError>
     ensures { OnOk result (steps.new.items ≡ steps.old.items ++ steps_before cell kind []) }
 {
-    for up in kind.ways() {
+    let mut left = kind.ways();
+    while let Some((up, more)) = left.split_first() {
         steps.push(Direction { cell, up: *up })?;
+        left = more;
     }
     Ok(())
 }

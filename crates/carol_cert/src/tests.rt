@@ -68,7 +68,7 @@ fn an_odd_difference_is_not_twice_another(rt: HostRuntime) -> Result<(), Fail> {
 fn cases_are_closed_on_both_sides(rt: HostRuntime) -> Result<(), Fail> {
     let alloc = rt.alloc();
     // x is 0, and it isn't.
-    let bounds = and(
+    let bounds = Formula::and(
         alloc,
         Formula::Le(multiple(alloc, 1, 0, 0)?),
         Formula::Le(multiple(alloc, -1, 0, 0)?),

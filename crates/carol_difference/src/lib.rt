@@ -108,7 +108,5 @@ mod forest;
 mod graph;
 mod paths;
 mod sides;
-#[cfg(test)]
-mod tests;
 
 pub use paths::{Edge, Paths, potentials_or_cycle};

@@ -47,33 +47,3 @@ pub fn potentials_or_cycle(alloc: Global, nodes: u32, edges: &[Edge]) -> Result<
         }
     }
 }
-
-#[cfg(test)]
-mod tests {
-    use super::*;
-    use std::test::Fail;
-
-    #[test]
-    fn decides_two_small_graphs(rt: HostRuntime) -> Result<(), Fail> {
-        let edges = [
-            Edge {
-                from: 0,
-                to: 1,
-                weight: 2,
-            },
-            Edge {
-                from: 1,
-                to: 0,
-                weight: -3,
-            },
-        ];
-        let is_cycle = matches!(potentials_or_cycle(rt.alloc(), 2, &edges)?, Paths::Cycle(_));
-        assert!(rt; is_cycle);
-        let alone = matches!(
-            potentials_or_cycle(rt.alloc(), 2, &edges[1..])?,
-            Paths::Potentials(_)
-        );
-        assert!(rt; alone);
-        Ok(())
-    }
-}

@@ -17,8 +17,6 @@ mod next;
 mod order;
 mod reading;
 mod stage;
-#[cfg(test)]
-mod tests;
 mod tightening;
 
 pub use allowance::Allowance;

@@ -10,11 +10,9 @@ mod items;
 mod kind;
 mod parse;
 mod print;
+mod push;
 
 pub use error::LineError;
 pub use event::{Cause, Event};
 pub use parse::parse_event;
 pub use print::{print_event, push_cause, push_values};
-
-#[cfg(test)]
-mod tests;

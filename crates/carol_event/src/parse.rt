@@ -25,8 +25,8 @@ pub fn parse_event(alloc: Global, line: &[u8]) -> Result<Event, LineError>
     ensures only { (event : EventData) → HasNumbers event → line.now ≡ event_text event
         → IsOkAnd result (λ x. x ≡ event) }
 
-    // No event's text begins with the line up to and with the column, and one begins with what stands
-    // before it. The 17th value or atom is bad at its first byte, not at the space before it.
+    // No event's text begins with the line up to and with the column, and one begins with what
+    // stands before it. The 17th value or atom is bad at its first byte, not at the space before it.
     ensures bad { Refuses line.now result }
 {
     match event(alloc, line) {

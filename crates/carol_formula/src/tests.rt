@@ -210,8 +210,16 @@ fn a_tree_of_any_depth_is_dropped(rt: HostRuntime) -> Result<(), Fail> {
     let mut left = Formula::True;
     let mut right = Formula::False;
     for _ in 0..200_000u32 {
-        left = Formula::and(alloc, left, Formula::or(alloc, Formula::True, Formula::False)?)?;
-        right = Formula::or(alloc, Formula::and(alloc, Formula::True, Formula::False)?, right)?;
+        left = Formula::and(
+            alloc,
+            left,
+            Formula::or(alloc, Formula::True, Formula::False)?,
+        )?;
+        right = Formula::or(
+            alloc,
+            Formula::and(alloc, Formula::True, Formula::False)?,
+            right,
+        )?;
     }
     let _both = Formula::and(alloc, left, right)?;
     Ok(())

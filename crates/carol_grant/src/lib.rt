@@ -10,7 +10,5 @@
 mod grants;
 mod row;
 mod tally;
-#[cfg(test)]
-mod tests;
 
 pub use grants::Grants;

@@ -11,6 +11,3 @@ mod row;
 
 pub use holding::Holding;
 pub use row::MOST_ENTRIES;
-
-#[cfg(test)]
-mod tests;

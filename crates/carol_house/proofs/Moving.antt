@@ -1,13 +1,11 @@
 -- What keeps a house from a move.
 use Rattle.std.proofs.Common.{◌≡◌, ℕ, true, false, List, sym, subst, ◌∙◌}
-use Rattle.std.specs.Prelude.{Some}
 use Rattle.carol_program.specs.Rules.{rules_in}
 use Rattle.carol_program.specs.declared.scenes.Scene.{Scene}
 use Rattle.carol_reading.specs.Kept.{Kept}
 use Rattle.carol_event.specs.declared.event.Event.{Event}
 use Rattle.carol_event.specs.declared.event.Event.TheVariants as event
 use Rattle.carol_history.specs.Legal.{Legal}
-use Rattle.carol_history.specs.Links.{is_linked}
 use Rattle.carol_house.specs.declared.error.HouseError.{HouseError}
 use Rattle.carol_house.specs.declared.error.HouseError.TheVariants as error
 use Rattle.carol_house.specs.House.{House, Rests, rules_of}

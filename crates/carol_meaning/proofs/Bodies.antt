@@ -20,7 +20,7 @@ use Rattle.carol_meaning.specs.Declarations.{place_of}
 use Rattle.carol_meaning.specs.Cells.{kinds_in}
 use Rattle.carol_meaning.specs.Terms.{is_small, term_worth, term_meaning, term_faults, formula_meaning}
 use Rattle.carol_meaning.specs.Scopes.{Scope, declared}
-use Rattle.carol_meaning.specs.Bodies.{Around, Point, in_body, small_or_none, passed, behind, unknown_guard, guard_number, issue_faults, plain_faults, chain, queries_named, queries_of, entered, skipped, body_faults, body_meaning}
+use Rattle.carol_meaning.specs.Bodies.{Around, Point, in_body, small_or_none, passed, behind, unknown_guard, guard_number, issue_faults, plain_faults, chain, queries_named, queries_within, entered, skipped, body_faults, body_meaning}
 use Rattle.carol_meaning.proofs.Lists.{no_part, second-none, either-way}
 use Rattle.carol_meaning.proofs.Among.{AreNarrow, Widens, IsTermIn}
 use Rattle.carol_meaning.proofs.Terms.{LooksIn, worth-in, meaning-over, formula-over}
@@ -100,15 +100,15 @@ module _ (around : Around) (params : ℕ) (few : length (flat_map kinds_in aroun
         chain-fits ss (passed around at (statement.Issue atoms)) slots last place (second-none (issue_faults around at [] atoms) _ none) shape.1 room fits,
       )
 
-  pub body-fits : (b : BodyTree) (at : Point) (slots : List ℕ) → IsPlace cells params slots at.scope → body_faults around at b ≡ [] → IsBody b → HasShortParts b → at.slot + length (queries_of b) ≤ most_queries → IsFitBody setting slots (body_meaning around at b)
+  pub body-fits : (b : BodyTree) (at : Point) (slots : List ℕ) → IsPlace cells params slots at.scope → body_faults around at b ≡ [] → IsBody b → HasShortParts b → at.slot + length (queries_within b) ≤ most_queries → IsFitBody setting slots (body_meaning around at b)
   body-fits (Return plain value) at slots place none shape sized room =
       let end = behind around at plain in
       chain-fits plain at slots (body.Return end.number (term_meaning (in_body around end) value)) place (search no_part) shape.0 room
       (λ more there. meaning-over (ranges more) there.narrow (in_body around end) (looks end more there) value (search no_part))
   body-fits (If plain test first second) at slots place none shape sized room =
       let end = behind around at plain in
-      let count = length-append (queries_named plain) (queries_of first ++ queries_of second) in
-      let counts = length-append (queries_of first) (queries_of second) in
+      let count = length-append (queries_named plain) (queries_within first ++ queries_within second) in
+      let counts = length-append (queries_within first) (queries_within second) in
       let slot = behind-slot around plain at in
       chain-fits plain at slots
       (body.Branch end.number (formula_meaning (in_body around end) test) (body_meaning around (entered end) first) (body_meaning around (skipped first end) second))

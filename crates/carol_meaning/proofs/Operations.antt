@@ -18,8 +18,9 @@ use Rattle.carol_meaning.specs.declared.meaning.Meaning.TheVariants.{Parameter, 
 use Rattle.carol_meaning.specs.Declarations.{is_among, too_many}
 use Rattle.carol_meaning.specs.Cells.{kinds_in}
 use Rattle.carol_meaning.specs.Scopes.{Scope, declared, in_scope}
-use Rattle.carol_meaning.specs.Bodies.{Around, queries_named, queries_of}
-use Rattle.carol_meaning.specs.Operations.{param_names, with_params, with_queries, words, refinement_scope, outcome_scope, start_of, refinement_faults, refinements, op_faults, op_meaning, op_names}
+use Rattle.carol_meaning.specs.Bodies.{Around, queries_named, queries_within}
+use Rattle.carol_meaning.specs.Operations.{param_names, with_params, with_queries, refinement_scope, outcome_scope, start_of, refinement_faults, refinements, op_faults, op_meaning, op_names}
+use Rattle.carol_meaning.specs.Stores.{words}
 use Rattle.carol_meaning.proofs.Lists.{either-way, no_part, few, All-append, All-map}
 use Rattle.carol_meaning.proofs.Among.{AreNarrow, Widens}
 use Rattle.carol_meaning.proofs.Terms.{formula-over}
@@ -54,7 +55,7 @@ with_queries-in ranges cells params scope (i ∷ more) h =
     (either-way (AreMeaningsIn ranges cells) (is_among i.word params) scope (declared i.word Elsewhere scope) h (declared-in ranges cells i.word Elsewhere scope tt h))
 
 refinement-in : (ranges : List (ℕ × ℕ)) (cells : ℕ) (o : OpTree) → AreMeaningsIn ranges cells (refinement_scope o)
-refinement-in ranges cells o = with_queries-in ranges cells (words (param_names o)) [] (queries_of o.body) tt
+refinement-in ranges cells o = with_queries-in ranges cells (words (param_names o)) [] (queries_within o.body) tt
 
 with_params-in : (ranges : List (ℕ × ℕ)) (cells n : ℕ) (scope : Scope) (ps : List NamedFormula) → ((k : ℕ) → k < n + length ps → IsAmong ranges (param_variable k)) → AreMeaningsIn ranges cells scope → AreMeaningsIn ranges cells (with_params n scope ps)
 with_params-in ranges cells n scope [] among h = h
@@ -96,10 +97,10 @@ module _ (around : Around) (few-cells : length (flat_map kinds_in around.cells) 
       let none-more : too_many most_params (param_names o) ≡ [] = search no_part in
       omega (arith, few most_params (param_names o) none-more, length-map o.params (λ p. p.name))
 
-  few-queries : length (queries_of o.body) ≤ most_queries
+  few-queries : length (queries_within o.body) ≤ most_queries
   few-queries =
-      let none-more : too_many most_queries (queries_of o.body) ≡ [] = search no_part in
-      few most_queries (queries_of o.body) none-more
+      let none-more : too_many most_queries (queries_within o.body) ≡ [] = search no_part in
+      few most_queries (queries_within o.body) none-more
 
   count : params ≡ length o.params
   count = refinements-count around 0 (refinement_scope o) o.params
@@ -134,11 +135,11 @@ queries-named [] h = tt
 queries-named (statement.Query name guard ∷ ss) h = (h.0.0, queries-named ss h.1)
 queries-named (s ∷ ss) h = queries-named ss h.1
 
-queries-names : (b : BodyTree) → IsBody b → AllByRecursion IsName (queries_of b)
+queries-names : (b : BodyTree) → IsBody b → AllByRecursion IsName (queries_within b)
 queries-names (Return plain value) h = queries-named plain h.0
 queries-names (If plain test first second) h =
-    All-append IsName (queries_named plain) (queries_of first ++ queries_of second) (queries-named plain h.0)
-    (All-append IsName (queries_of first) (queries_of second) (queries-names first h.2) (queries-names second h.3))
+    All-append IsName (queries_named plain) (queries_within first ++ queries_within second) (queries-named plain h.0)
+    (All-append IsName (queries_within first) (queries_within second) (queries-names first h.2) (queries-names second h.3))
 
 pub words-short : (names : List Ident) → AllByRecursion IsName names → AreShort (words names)
 words-short names h = All-map IsName (λ word. length word ≤ longest_name) (λ i. i.word) (λ i named. named.1) names h
@@ -151,6 +152,6 @@ op-called around o shape = record {
   own = shape.0.1;
   params = omega (arith, length-map (param_names o) (λ i. i.word), length-map o.params (λ p. p.name), refinements-count around 0 (refinement_scope o) o.params);
   short_params = words-short (param_names o) (names-of o.params shape.1);
-  queries = omega (arith, length-map (queries_of o.body) (λ i. i.word), body-queries around o.body (start_of o));
-  short_queries = words-short (queries_of o.body) (queries-names o.body shape.3);
+  queries = omega (arith, length-map (queries_within o.body) (λ i. i.word), body-queries around o.body (start_of o));
+  short_queries = words-short (queries_within o.body) (queries-names o.body shape.3);
 }

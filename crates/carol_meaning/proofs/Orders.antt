@@ -8,7 +8,7 @@ use Rattle.carol_program.specs.Bodies as body
 use Rattle.carol_program.specs.Bodies.{Body, queries_in, last_number, depth}
 use Rattle.carol_program.specs.WellFormed.{RisesFrom, SlotsFrom}
 use Rattle.carol_meaning.specs.Terms.{term_meaning, formula_meaning}
-use Rattle.carol_meaning.specs.Bodies.{Around, Point, in_body, passed, behind, chain, queries_named, queries_of, entered, skipped, body_meaning}
+use Rattle.carol_meaning.specs.Bodies.{Around, Point, in_body, passed, behind, chain, queries_named, queries_within, entered, skipped, body_meaning}
 
 module _ (around : Around) where
   -- ---- the place behind statements
@@ -57,14 +57,14 @@ module _ (around : Around) where
   return_at at (Return plain value) = body.Return at.number (term_meaning (in_body around at) value)
   return_at at (If plain test first second) = body.Branch at.number (formula_meaning (in_body around at) test) (body_meaning around (entered at) first) (body_meaning around (skipped first at) second)
 
-  pub body-queries : (b : BodyTree) (at : Point) → queries_in (body_meaning around at b) ≡ length (queries_of b)
+  pub body-queries : (b : BodyTree) (at : Point) → queries_in (body_meaning around at b) ≡ length (queries_within b)
   body-queries (Return plain value) at = omega (arith, chain-queries plain at (return_at (behind around at plain) (Return plain value)))
   body-queries (If plain test first second) at =
       omega (
         arith,
         chain-queries plain at (return_at (behind around at plain) (If plain test first second)),
-        length-append (queries_named plain) (queries_of first ++ queries_of second),
-        length-append (queries_of first) (queries_of second),
+        length-append (queries_named plain) (queries_within first ++ queries_within second),
+        length-append (queries_within first) (queries_within second),
         body-queries first (entered (behind around at plain)),
         body-queries second (skipped first (behind around at plain)),
       )

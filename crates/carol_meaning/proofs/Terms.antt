@@ -23,7 +23,7 @@ use Rattle.carol_program.specs.WellFormed.{AreSmall, IsSmall, IsTermOver, IsForm
 use Rattle.carol_formula.specs.Size.{nodes_of}
 use Rattle.carol_meaning.specs.Faults.{fault_at}
 use Rattle.carol_meaning.specs.declared.fault.NameKind.TheVariants.{TooWide}
-use Rattle.carol_meaning.specs.Terms.{Found, Worth, Nothing, Wrong, worth_of, multiplied, product_of, signed_factor, product_worth, added, sum_after, term_worth, are_small, is_small, width_faults, term_faults, or_zero, term_meaning, compared, comparison_worth, claim_or_false, formula_meaning, formula_faults}
+use Rattle.carol_meaning.specs.Terms.{Look, Found, Worth, Nothing, Wrong, worth_of, multiplied, product_of, signed_factor, product_worth, added, sum_after, term_worth, are_small, is_small, width_faults, term_faults, or_zero, term_meaning, compared, comparison_worth, claim_or_false, formula_meaning, formula_faults}
 use Rattle.carol_meaning.proofs.Lists.{no_part, passed-test}
 use Rattle.carol_meaning.proofs.Among.{AreNarrow, IsTermIn, sum-in, scaled-in, difference-in, short}
 
@@ -33,8 +33,8 @@ IsFoundIn ranges (Worth t) = AreAmong ranges t.pairs
 IsFoundIn ranges Nothing = Unit {0}
 IsFoundIn ranges (Wrong f) = Unit {0}
 
-abbrev pub LooksIn : List (ℕ × ℕ) → (ValueDecl → Found) → Type 0
-LooksIn ranges look = (v : ValueDecl) → IsFoundIn ranges (look v)
+abbrev pub LooksIn : List (ℕ × ℕ) → Look → Type 0
+LooksIn ranges look = (v : ValueDecl) → IsFoundIn ranges (look.value v)
 
 -- ---- width
 
@@ -59,7 +59,7 @@ or_zero-small : (t : Option Linear) → IfSome t IsSmall → IsSmall (or_zero t)
 or_zero-small None h = (tt, omega arith)
 or_zero-small (Some t) h = h
 
-pub meaning-small : (look : ValueDecl → Found) (t : TermDecl) → term_faults look t ≡ [] → IsSmall (term_meaning look t)
+pub meaning-small : (look : Look) (t : TermDecl) → term_faults look t ≡ [] → IsSmall (term_meaning look t)
 meaning-small look t h = or_zero-small (term_worth look t) (small-worth t.span (term_worth look t) (search no_part))
 
 -- ---- a term negated
@@ -92,7 +92,7 @@ claim-nodes sign None = omega arith
 claim-nodes Same (Some t) = omega arith
 claim-nodes _ (Some t) = omega arith
 
-formula-nodes : (look : ValueDecl → Found) (f : FormulaTree) → nodes_of (formula_meaning look f) ≤ node_count f
+formula-nodes : (look : Look) (f : FormulaTree) → nodes_of (formula_meaning look f) ≤ node_count f
 formula-nodes look True = omega arith
 formula-nodes look False = omega arith
 formula-nodes look (Not f) = omega (arith, formula-nodes look f)
@@ -137,10 +137,10 @@ module _ (ranges : List (ℕ × ℕ)) where
   comparison-in sign (Some s) None h k = tt
   comparison-in sign (Some s) (Some t) h k = compared-in sign s t h.variables k.variables
 
-  module _ (look : ValueDecl → Found) (looks : LooksIn ranges look) where
+  module _ (look : Look) (looks : LooksIn ranges look) where
     product-in : (k : ℤ) (value : Option ValueDecl) → IfSome (product_of look k value) (λ t. AreAmong ranges t.pairs)
     product-in k None = tt
-    product-in k (Some v) = multiplied-in k (look v) (looks v)
+    product-in k (Some v) = multiplied-in k (look.value v) (looks v)
 
     sum_after-in : (ps : List ProductDecl) (sum : Option Linear) → IfSome sum (IsTermIn ranges) → IfSome (sum_after look sum ps) (IsTermIn ranges)
     sum_after-in [] sum h = h
@@ -162,7 +162,7 @@ module _ (ranges : List (ℕ × ℕ)) where
     some-over None h k = tt
     some-over (Some t) h k = term-over t h k
 
-    module _ (look : ValueDecl → Found) (looks : LooksIn ranges look) where
+    module _ (look : Look) (looks : LooksIn ranges look) where
       pub meaning-over : (t : TermDecl) → term_faults look t ≡ [] → IsTermOver ranges (term_meaning look t)
       meaning-over t h = term-over (term_meaning look t) (meaning-in look looks t) (meaning-small look t h)
 

@@ -25,7 +25,7 @@ use Rattle.carol_meaning.specs.Declarations.{place_of}
 use Rattle.carol_meaning.specs.declared.named.Named.{Named}
 use Rattle.carol_meaning.specs.declared.named.Named.TheVariants.{Cell, Members, Missing, Misused}
 use Rattle.carol_meaning.specs.Cells.{named}
-use Rattle.carol_meaning.specs.Terms.{Found, term_worth, term_faults, term_meaning, formula_meaning, formula_faults, is_small}
+use Rattle.carol_meaning.specs.Terms.{Look, term_worth, term_faults, term_meaning, formula_meaning, formula_faults, is_small}
 use Rattle.carol_meaning.specs.Stores.{words, first_word, path_span}
 use Rattle.carol_meaning.specs.declared.meaning.Meaning.TheVariants.{Queried, Bound}
 use Rattle.carol_meaning.specs.Scopes.{Scope, declared, in_scope}
@@ -42,8 +42,8 @@ pub record Point : Type 0 where
   pub number : ℕ
 
 -- what a value is at a place of a body
-abbrev pub in_body : Around → Point → ValueDecl → Found
-in_body around at v = in_scope around.cells false at.scope v
+abbrev pub in_body : Around → Point → Look
+in_body around at = in_scope around.cells false at.scope
 
 -- ---- issues
 
@@ -54,9 +54,16 @@ path_fault kind path = fault_at kind (path_span (record { line = 0; column = 0 }
 abbrev pub suits : CellKind → Change → Bool
 suits Counter (Add t) = true
 suits Counter (Take t) = true
+suits Counter (Raise t) = false
+suits Counter Set = false
+suits Peak (Add t) = false
+suits Peak (Take t) = false
 suits Peak (Raise t) = true
+suits Peak Set = false
+suits Flag (Add t) = false
+suits Flag (Take t) = false
+suits Flag (Raise t) = false
 suits Flag Set = true
-suits kind change = false
 
 -- what is wrong with a change of what a path names
 abbrev pub change_faults : PathDecl → Change → Named → List Fault
@@ -65,24 +72,24 @@ change_faults path change (Members first count) = path_fault WrongKind path ∷ 
 change_faults path change Missing = path_fault Unknown path ∷ []
 change_faults path change Misused = path_fault WrongKind path ∷ []
 
-abbrev pub amount_faults : (ValueDecl → Found) → Change → List Fault
+abbrev pub amount_faults : Look → Change → List Fault
 amount_faults look (Add t) = term_faults look t
 amount_faults look (Take t) = term_faults look t
 amount_faults look (Raise t) = term_faults look t
 amount_faults look Set = []
 
 -- the number of a cell, 0 for what is none
-abbrev pub number_of : Named → ℕ
-number_of (Cell number kind) = number
-number_of found = 0
+abbrev pub cell_number : Named → ℕ
+cell_number (Cell number kind) = number
+cell_number found = 0
 
-abbrev pub is_among : ℕ → List ℕ → Bool
-is_among n [] = false
-is_among n (m ∷ ms) = n == m || is_among n ms
+abbrev pub has_number : ℕ → List ℕ → Bool
+has_number n [] = false
+has_number n (m ∷ ms) = n == m || has_number n ms
 
 -- a cell that is one of those
 abbrev pub again_faults : List ℕ → PathDecl → Named → List Fault
-again_faults seen path (Cell number kind) = if is_among number seen then (path_fault Twice path ∷ []) else []
+again_faults seen path (Cell number kind) = if has_number number seen then (path_fault Twice path ∷ []) else []
 again_faults seen path found = []
 
 -- the cells that were seen, and what a path names
@@ -104,14 +111,14 @@ issue_faults around at seen (a ∷ more) =
     atom_faults around at seen a (target around a) ++ issue_faults around at (seen_with seen (target around a)) more
 
 -- what is added to a counter, a peak's target, and 1 for a flag
-abbrev pub amount_of : (ValueDecl → Found) → Change → Linear
+abbrev pub amount_of : Look → Change → Linear
 amount_of look (Add t) = term_meaning look t
 amount_of look (Take t) = scaled (neg_ℤ (pos 1)) (term_meaning look t)
 amount_of look (Raise t) = term_meaning look t
 amount_of look Set = constant_of (pos 1)
 
 abbrev pub part_of : Around → Point → AtomDecl → Part
-part_of around at a = record { cell = number_of (target around a); amount = amount_of (in_body around at) a.change }
+part_of around at a = record { cell = cell_number (target around a); amount = amount_of (in_body around at) a.change }
 
 abbrev pub parts_of : Around → Point → List AtomDecl → List Part
 parts_of around at [] = []
@@ -180,9 +187,9 @@ queries_named (statement.Let name term ∷ ss) = queries_named ss
 queries_named (statement.Issue atoms ∷ ss) = queries_named ss
 
 -- the names of the queries, in the order of the text
-abbrev pub queries_of : BodyTree → List Ident
-queries_of (Return plain value) = queries_named plain
-queries_of (If plain test first second) = queries_named plain ++ (queries_of first ++ queries_of second)
+abbrev pub queries_within : BodyTree → List Ident
+queries_within (Return plain value) = queries_named plain
+queries_within (If plain test first second) = queries_named plain ++ (queries_within first ++ queries_within second)
 
 abbrev pub names_along : List Statement → List Ident
 names_along [] = []
@@ -192,9 +199,9 @@ names_along (statement.Let name term ∷ ss) = name ∷ names_along ss
 names_along (statement.Issue atoms ∷ ss) = names_along ss
 
 -- the names that it declares, in the order of the text: both branches share one space
-abbrev pub names_of : BodyTree → List Ident
-names_of (Return plain value) = names_along plain
-names_of (If plain test first second) = names_along plain ++ (names_of first ++ names_of second)
+abbrev pub names_within : BodyTree → List Ident
+names_within (Return plain value) = names_along plain
+names_within (If plain test first second) = names_along plain ++ (names_within first ++ names_within second)
 
 -- the place at the start of the first branch
 abbrev pub entered : Point → Point
@@ -204,7 +211,7 @@ entered at = record { scope = at.scope; slot = at.slot; number = at.number + 1 }
 abbrev pub skipped : BodyTree → Point → Point
 skipped first at = record {
   scope = at.scope;
-  slot = at.slot + length (queries_of first);
+  slot = at.slot + length (queries_within first);
   number = at.number + 1 + statement_count first;
 }
 

@@ -73,24 +73,24 @@ named ds (word ∷ rest) = named_after 0 ds word rest
 
 -- ---- the cells
 
-abbrev pub kinds_in : CellDecl → List CellKind
-kinds_in (Field f) = kind_of f.kind ∷ []
-kinds_in (Set name members) = map (λ m. cell_kind.Flag) members
-kinds_in (Record name fields) = map (λ f. kind_of f.kind) fields
-
-abbrev pub starts_in : CellDecl → List ℤ
-starts_in (Field f) = f.start ∷ []
-starts_in (Set name members) = map (λ m. pos 0) members
-starts_in (Record name fields) = map (λ f. f.start) fields
-
 -- the name of a member or a field
 abbrev pub dotted : Ident → Ident → List ℕ
 dotted group i = group.word ++ codes "." ++ i.word
 
+-- what the function gives for each cell of a declaration, of its kind, the value that it starts with and its whole name
+abbrev pub cells_in : {A : Type 0} → (CellKind → ℤ → List ℕ → A) → CellDecl → List A
+cells_in cell (Field f) = cell (kind_of f.kind) f.start f.name.word ∷ []
+cells_in cell (Set name members) = map (λ m. cell cell_kind.Flag (pos 0) (dotted name m)) members
+cells_in cell (Record name fields) = map (λ f. cell (kind_of f.kind) f.start (dotted name f.name)) fields
+
+abbrev pub kinds_in : CellDecl → List CellKind
+kinds_in d = cells_in (λ kind start title. kind) d
+
+abbrev pub starts_in : CellDecl → List ℤ
+starts_in d = cells_in (λ kind start title. start) d
+
 abbrev pub titles_in : CellDecl → List (List ℕ)
-titles_in (Field f) = f.name.word ∷ []
-titles_in (Set name members) = map (dotted name) members
-titles_in (Record name fields) = map (λ f. dotted name f.name) fields
+titles_in d = cells_in (λ kind start title. title) d
 
 -- ---- what is wrong
 

@@ -11,7 +11,8 @@ use Rattle.carol_meaning.specs.Declarations.{is_among, twice_in, too_many}
 use Rattle.carol_meaning.specs.Terms.{formula_meaning, formula_faults}
 use Rattle.carol_meaning.specs.declared.meaning.Meaning.TheVariants.{Parameter, Elsewhere}
 use Rattle.carol_meaning.specs.Scopes.{Scope, declared, in_scope}
-use Rattle.carol_meaning.specs.Bodies.{Around, Point, queries_of, names_of, body_faults, body_meaning}
+use Rattle.carol_meaning.specs.Stores.{words}
+use Rattle.carol_meaning.specs.Bodies.{Around, Point, queries_within, names_within, body_faults, body_meaning}
 
 abbrev pub param_names : OpTree → List Ident
 param_names o = map (λ p. p.name) o.params
@@ -29,12 +30,9 @@ with_queries params scope [] = scope
 with_queries params scope (i ∷ more) =
     with_queries params (if is_among i.word params then scope else declared i.word Elsewhere scope) more
 
-abbrev pub words : List Ident → List (List ℕ)
-words names = map (λ i. i.word) names
-
 -- what the first refinement sees, but for its own parameter
 abbrev pub refinement_scope : OpTree → Scope
-refinement_scope o = with_queries (words (param_names o)) [] (queries_of o.body)
+refinement_scope o = with_queries (words (param_names o)) [] (queries_within o.body)
 
 -- what the refinement of the result sees
 abbrev pub outcome_scope : OpTree → Scope
@@ -63,11 +61,11 @@ refinements around n scope (p ∷ ps) =
 
 -- parameters, terms' names and queries share one space
 abbrev pub op_declared : OpTree → List Ident
-op_declared o = param_names o ++ names_of o.body
+op_declared o = param_names o ++ names_within o.body
 
 -- what is wrong with what it declares
 abbrev pub declared_faults : OpTree → List Fault
-declared_faults o = twice_in (op_declared o) ++ (too_many most_params (param_names o) ++ too_many most_queries (queries_of o.body))
+declared_faults o = twice_in (op_declared o) ++ (too_many most_params (param_names o) ++ too_many most_queries (queries_within o.body))
 
 abbrev pub op_faults : Around → OpTree → List Fault
 op_faults around o =
@@ -83,4 +81,4 @@ op_meaning around o = record {
 }
 
 abbrev pub op_names : OpTree → OpNames
-op_names o = record { own = o.name.word; params = words (param_names o); queries = words (queries_of o.body) }
+op_names o = record { own = o.name.word; params = words (param_names o); queries = words (queries_within o.body) }

@@ -10,9 +10,9 @@ use Rattle.carol_meaning.specs.declared.fault.Fault.{Fault}
 use Rattle.carol_meaning.specs.Declarations.{twice_in, too_many}
 use Rattle.carol_meaning.specs.Cells.{cell_faults, kinds_in, starts_in, titles_in}
 use Rattle.carol_meaning.specs.Terms.{formula_meaning, formula_faults}
-use Rattle.carol_meaning.specs.Stores.{in_invariant, in_guard}
+use Rattle.carol_meaning.specs.Stores.{in_invariant, in_guard, words}
 use Rattle.carol_meaning.specs.Bodies.{Around}
-use Rattle.carol_meaning.specs.Operations.{words, op_faults, op_meaning, op_names}
+use Rattle.carol_meaning.specs.Operations.{op_faults, op_meaning, op_names}
 
 abbrev pub guard_names : ProgramTree → List Ident
 guard_names p = map (λ g. g.name) p.guards

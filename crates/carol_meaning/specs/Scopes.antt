@@ -11,7 +11,7 @@ use Rattle.carol_program.specs.Variables.{param_variable, result_variable, query
 use Rattle.carol_meaning.specs.declared.meaning.Meaning.{Meaning}
 use Rattle.carol_meaning.specs.declared.meaning.Meaning.TheVariants.{Parameter, Queried, Bound, Elsewhere}
 use Rattle.carol_meaning.specs.Cells.{named}
-use Rattle.carol_meaning.specs.Terms.{Found, Worth, Nothing}
+use Rattle.carol_meaning.specs.Terms.{Found, Look, Worth, Nothing}
 use Rattle.carol_meaning.specs.Stores.{words, wrong_kind, unknown, cell_value, set_value}
 
 -- names with their meanings, in the order in which they were declared
@@ -77,5 +77,5 @@ look_in cells outcome scope Size v = look_size cells scope v v.parts
 look_in cells outcome scope Outcome v = if outcome then Worth (variable_of result_variable) else wrong_kind v
 look_in cells outcome scope kind v = wrong_kind v
 
-abbrev pub in_scope : List CellDecl → Bool → Scope → ValueDecl → Found
-in_scope cells outcome scope v = look_in cells outcome scope v.kind v
+abbrev pub in_scope : List CellDecl → Bool → Scope → Look
+in_scope cells outcome scope = record { value = λ v. look_in cells outcome scope v.kind v }

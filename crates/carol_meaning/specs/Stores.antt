@@ -13,7 +13,7 @@ use Rattle.carol_meaning.specs.Faults.{fault_at}
 use Rattle.carol_meaning.specs.declared.named.Named.{Named}
 use Rattle.carol_meaning.specs.declared.named.Named.TheVariants.{Cell, Members, Missing, Misused}
 use Rattle.carol_meaning.specs.Cells.{named}
-use Rattle.carol_meaning.specs.Terms.{Found, Worth, Wrong}
+use Rattle.carol_meaning.specs.Terms.{Found, Look, Worth, Wrong}
 
 abbrev pub words : List Ident → List (List ℕ)
 words parts = map (λ i. i.word) parts
@@ -73,8 +73,8 @@ look_one cells Plain v = cell_value (cell_variable 0) v (path_named cells v)
 look_one cells Size v = set_value (cell_variable 0) v (path_named cells v)
 look_one cells kind v = wrong_kind v
 
-abbrev pub in_invariant : List CellDecl → ValueDecl → Found
-in_invariant cells v = look_one cells v.kind v
+abbrev pub in_invariant : List CellDecl → Look
+in_invariant cells = record { value = λ v. look_one cells v.kind v }
 
 -- in a guard: behind `here` or `there`
 abbrev pub look_two : List CellDecl → ValueKind → ValueDecl → Found
@@ -85,5 +85,5 @@ look_two cells SizeThere v = set_value (there_variable 0) v (path_named cells v)
 look_two cells Plain v = no_value v (path_named cells v)
 look_two cells kind v = wrong_kind v
 
-abbrev pub in_guard : List CellDecl → ValueDecl → Found
-in_guard cells v = look_two cells v.kind v
+abbrev pub in_guard : List CellDecl → Look
+in_guard cells = record { value = λ v. look_two cells v.kind v }

@@ -22,6 +22,10 @@ pub data Found : Type 0 where
   Nothing : Found
   Wrong : (fault : Fault) → Found
 
+-- a way to look values up
+pub record Look : Type 0 where
+  pub value : ValueDecl → Found
+
 -- ---- terms
 
 abbrev pub worth_of : Found → Option Linear
@@ -38,11 +42,11 @@ abbrev pub multiplied : ℤ → Option Linear → Option Linear
 multiplied k None = None
 multiplied k (Some t) = Some (scaled k t)
 
-abbrev pub product_of : (ValueDecl → Found) → ℤ → Option ValueDecl → Option Linear
+abbrev pub product_of : Look → ℤ → Option ValueDecl → Option Linear
 product_of look k None = Some (constant_of k)
-product_of look k (Some v) = multiplied k (worth_of (look v))
+product_of look k (Some v) = multiplied k (worth_of (look.value v))
 
-abbrev pub product_worth : (ValueDecl → Found) → ProductDecl → Option Linear
+abbrev pub product_worth : Look → ProductDecl → Option Linear
 product_worth look p = product_of look (signed_factor p.minus p.factor) p.value
 
 -- the sum, where both are worth something
@@ -52,12 +56,12 @@ added (Some s) None = None
 added (Some s) (Some t) = Some (sum_of s t)
 
 -- the products added to a sum, one after the other
-abbrev pub sum_after : (ValueDecl → Found) → Option Linear → List ProductDecl → Option Linear
+abbrev pub sum_after : Look → Option Linear → List ProductDecl → Option Linear
 sum_after look sum [] = sum
 sum_after look sum (p ∷ ps) = sum_after look (added sum (product_worth look p)) ps
 
 -- what a term is worth, in normal form; none where a value is worth none
-abbrev pub term_worth : (ValueDecl → Found) → TermDecl → Option Linear
+abbrev pub term_worth : Look → TermDecl → Option Linear
 term_worth look t = sum_after look (Some (constant_of (pos 0))) t.products
 
 abbrev pub found_faults : Found → List Fault
@@ -65,15 +69,15 @@ found_faults (Worth t) = []
 found_faults Nothing = []
 found_faults (Wrong f) = f ∷ []
 
-abbrev pub value_faults : (ValueDecl → Found) → Option ValueDecl → List Fault
+abbrev pub value_faults : Look → Option ValueDecl → List Fault
 value_faults look None = []
-value_faults look (Some v) = found_faults (look v)
+value_faults look (Some v) = found_faults (look.value v)
 
-abbrev pub product_faults : (ValueDecl → Found) → ProductDecl → List Fault
+abbrev pub product_faults : Look → ProductDecl → List Fault
 product_faults look p = value_faults look p.value
 
 -- the faults of a term's values
-abbrev pub values_faults : (ValueDecl → Found) → TermDecl → List Fault
+abbrev pub values_faults : Look → TermDecl → List Fault
 values_faults look t = flat_map (product_faults look) t.products
 
 -- ---- width
@@ -92,7 +96,7 @@ width_faults span None = []
 width_faults span (Some t) = if is_small t then [] else (fault_at TooWide span [] ∷ [])
 
 -- the faults of a term by itself
-abbrev pub term_faults : (ValueDecl → Found) → TermDecl → List Fault
+abbrev pub term_faults : Look → TermDecl → List Fault
 term_faults look t = values_faults look t ++ width_faults t.span (term_worth look t)
 
 -- a term of a place that wants one, 0 where it is worth nothing
@@ -100,7 +104,7 @@ abbrev pub or_zero : Option Linear → Linear
 or_zero None = constant_of (pos 0)
 or_zero (Some t) = t
 
-abbrev pub term_meaning : (ValueDecl → Found) → TermDecl → Linear
+abbrev pub term_meaning : Look → TermDecl → Linear
 term_meaning look t = or_zero (term_worth look t)
 
 -- ---- comparisons
@@ -133,7 +137,7 @@ claim_or_false sign (Some t) = as_claim sign t
 
 -- ---- formulas
 
-abbrev pub formula_meaning : (ValueDecl → Found) → FormulaTree → Claim
+abbrev pub formula_meaning : Look → FormulaTree → Claim
 formula_meaning look True = claim.True
 formula_meaning look False = claim.False
 formula_meaning look (Not f) = claim.Not (formula_meaning look f)
@@ -142,7 +146,7 @@ formula_meaning look (Or f g) = claim.Or (formula_meaning look f) (formula_meani
 formula_meaning look (Compare left sign right) = claim_or_false sign (comparison_worth sign (term_worth look left) (term_worth look right))
 
 -- a comparison is too wide at the first token of its left term
-abbrev pub formula_faults : (ValueDecl → Found) → FormulaTree → List Fault
+abbrev pub formula_faults : Look → FormulaTree → List Fault
 formula_faults look True = []
 formula_faults look False = []
 formula_faults look (Not f) = formula_faults look f

@@ -9,6 +9,7 @@ ghost use Rattle.carol_syntax.specs.Size.{cell_count, cell_total};
 
 use crate::declared::{Declares, note_too_many, note_twice};
 use crate::finder::Finder;
+use crate::kinds::kind_of;
 use carol_meaning::Named;
 use carol_store::{CellKind, MOST_CELLS};
 use carol_syntax::{CellDecl, FieldDecl, FieldKind, Ident};
@@ -80,16 +81,6 @@ pub fn cell_count(declaration: &CellDecl) -> usize
         CellDecl::Field(_) => 1,
         CellDecl::Set { name: _, members } => members.len(),
         CellDecl::Record { name: _, fields } => fields.len(),
-    }
-}
-
-fn kind_of(kind: FieldKind) -> CellKind
-    ensures { result ≡ kind_of kind }
-{
-    match kind {
-        FieldKind::Counter => CellKind::Counter,
-        FieldKind::Peak => CellKind::Peak,
-        FieldKind::Flag => CellKind::Flag,
     }
 }
 

@@ -8,7 +8,8 @@ use carol_store::{CellKind, MOST_CELLS, Shape, ShortList};
 use carol_syntax::{CellDecl, FieldDecl, FieldKind, Ident};
 use std::alloc::Global;
 
-fn kind_of(kind: FieldKind) -> CellKind
+/// The kind of the cell that a field declares.
+pub(crate) fn kind_of(kind: FieldKind) -> CellKind
     ensures { result ≡ kind_of kind }
 {
     match kind {

@@ -8,7 +8,6 @@ use Rattle.carol_store.specs.declared.effect.Atom.{Atom}
 use Rattle.carol_store.specs.Kinds.{CellValue, IsAmount, value_of}
 use Rattle.carol_store.specs.Stores.{apply}
 use Rattle.carol_formula.specs.Claim.{truth}
-use Rattle.carol_formula.specs.Linear.{Linear}
 use Rattle.carol_formula.specs.Value.{value_at, set_at}
 use Rattle.carol_program.specs.declared.steps.Part.{Part}
 use Rattle.carol_program.specs.Bodies.{Body, Query, Issue, Release, Branch, Return}
@@ -187,7 +186,7 @@ module _ (p : Rules) (op : OpRules) (way : Way) (f g : ℕ → ℤ) (same_params
   breaks_as (After parts) fit ties b = (ties, subst (λ (store : List CellValue). truth p.invariant (number_in store) ≡ false) (after_as parts fit) b.1)
   breaks_as (Gives value) fit ties b =
       let given : truth op.result (set_at result_variable (value_at value g) (number_of_args (args_at (length op.params) f))) ≡ false =
-          subst (λ (z : ℤ). truth op.result (set_at result_variable z (number_of_args (args_at (length op.params) f))) ≡ false) (value_at-same (ranges_of p.shape (length op.params) way) f g agree value fit) b
+      subst (λ (z : ℤ). truth op.result (set_at result_variable z (number_of_args (args_at (length op.params) f))) ≡ false) (value_at-same (ranges_of p.shape (length op.params) way) f g agree value fit) b
       in subst (λ (args : List ℤ). truth op.result (set_at result_variable (value_at value g) (number_of_args args)) ≡ false) args_as given
 
 pub breach_as : (p : Rules) (op : OpRules) (site : Site) (f g : ℕ → ℤ) → IsFitSite p.shape (length op.params) site → SameFrom f g 32 (length op.params) → SameAlong (length p.shape) f g site.way → SameFrom f g (round_variable (rounds_of site.way) 0) (length p.shape) → HasTies p.shape site.way site.ending g → IsBreach p op site f → IsBreach p op site g

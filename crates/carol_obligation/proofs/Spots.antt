@@ -1,23 +1,21 @@
 -- The formulas of all places of operations.
-use Rattle.std.proofs.Common.{◌≡◌, ℕ, ◌+◌, ◌≤◌, Result, Ok, Err, List, [], ◌∷◌, ◌++◌, length, arith, refl, sym, ◌∙◌, ap, subst}
-use Rattle.std.specs.Prelude.{ℤ, map, false, OnOk}
+use Rattle.std.proofs.Common.{◌≡◌, ℕ, ◌+◌, Result, Ok, Err, List, [], ◌∷◌, ◌++◌, length, arith, refl, sym, ◌∙◌, ap, subst}
+use Rattle.std.specs.Prelude.{map, false, OnOk}
 use Rattle.std.specs.declared.alloc.AllocError.{AllocError}
 use Rattle.std.specs.List.{AllByRecursion, AllZip}
 use Rattle.std.proofs.lemmas.List.{map-append}
-use Rattle.carol_formula.specs.Claim.{Claim, truth, without_not}
-use Rattle.carol_formula.specs.Size.{nodes_of}
+use Rattle.carol_formula.specs.Claim.{Claim, truth}
 use Rattle.carol_formula.specs.Tree.{claim_of}
 use Rattle.carol_formula.proofs.Light.{narrow_light, narrow_without_not, nodes-without_not}
 use Rattle.carol_program.specs.declared.places.Place.{Place}
 use Rattle.carol_program.specs.Rules.{Rules, OpRules}
 use Rattle.carol_program.specs.WellFormed.{AreRules, IsOpOver}
-use Rattle.carol_obligation.specs.Breaches.{IsBreach}
 use Rattle.carol_obligation.specs.Budget.{IsDecidable}
 use Rattle.carol_obligation.specs.Formed.{obligation_at}
-use Rattle.carol_obligation.specs.Places.{obligations_from, obligations_of, sites_of}
-use Rattle.carol_obligation.specs.Spots.{Spot, spot_at, place_at, spots_from, spots_of}
+use Rattle.carol_obligation.specs.Places.{obligations_from, sites_of}
+use Rattle.carol_obligation.specs.Spots.{Spot, spot_at, place_at, spots_from}
 use Rattle.carol_obligation.specs.TruthLaw.{IsExact}
-use Rattle.carol_obligation.specs.Listed.{owed_of, owed_in, IsOwedAt, IsNarrow, AreNarrow}
+use Rattle.carol_obligation.specs.Listed.{owed_of, owed_in, IsOwedAt, AreNarrow}
 use Rattle.carol_obligation.specs.Keeping.{AreDecidable, AreKept}
 use Rattle.carol_obligation.specs.declared.list.Obligation.{Obligation}
 use Rattle.carol_obligation.proofs.Each.{all-append, all-map, map-map}
@@ -76,8 +74,7 @@ owed_at_spots p (o ∷ list) (s ∷ spots) e exact = (owed_there p o s (heads e)
 pub narrow_decidable : (list : List Obligation) → AreDecidable list → AreNarrow list
 narrow_decidable [] h = tt
 narrow_decidable (o ∷ list) h =
-    let c = claim_of o.formula in
-    (
+    let c = claim_of o.formula in (
       (record { narrow = narrow_light c h.0.light; few = omega (arith, h.0.few) }, record { narrow = narrow_without_not false c h.0.light; few = omega (arith, h.0.few, nodes-without_not false c) }),
       narrow_decidable list h.1,
     )

@@ -1,7 +1,7 @@
 -- The obligations of a body, with what is known where it begins.
 use Rattle.std.specs.Prelude.{ℕ, ◌+◌, Bool, true, false, List, [], ◌∷◌, ◌++◌, Option, Some, None, slice_get}
 use Rattle.carol_store.specs.declared.shape.CellKind.{CellKind}
-use Rattle.carol_store.specs.declared.shape.CellKind.TheVariants.{Flag}
+use Rattle.carol_store.specs.declared.shape.CellKind.TheVariants.{Counter, Peak, Flag}
 use Rattle.carol_formula.specs.Claim.{Claim}
 use Rattle.carol_program.specs.declared.places.Place.{Place}
 use Rattle.carol_program.specs.declared.places.Place.TheVariants as place
@@ -42,7 +42,8 @@ bounded_owed p at number atom part kind = (place.Amount at.number number atom, o
 abbrev pub amount_owed : Rules → Point → ℕ → ℕ → Part → Option CellKind → List (Place × Claim)
 amount_owed p at number atom part None = []
 amount_owed p at number atom part (Some Flag) = []
-amount_owed p at number atom part (Some kind) = bounded_owed p at number atom part kind
+amount_owed p at number atom part (Some Counter) = bounded_owed p at number atom part Counter
+amount_owed p at number atom part (Some Peak) = bounded_owed p at number atom part Peak
 
 abbrev pub amounts_owed : Rules → Point → ℕ → ℕ → List Part → List (Place × Claim)
 amounts_owed p at number atom [] = []

@@ -111,7 +111,9 @@ tie round cell target =
 
 abbrev pub with_tie : ℕ → Part → Option CellKind → Claim → Claim
 with_tie round part (Some Peak) known = And known (tie round part.cell part.amount)
-with_tie round part kind known = known
+with_tie round part (Some Counter) known = known
+with_tie round part (Some Flag) known = known
+with_tie round part None known = known
 
 abbrev pub with_ties : List CellKind → ℕ → List Part → Claim → Claim
 with_ties kinds round [] known = known

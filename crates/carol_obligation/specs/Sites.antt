@@ -2,7 +2,7 @@
 use Rattle.std.specs.Prelude.{ℕ, ◌+◌, true, false, List, [], ◌∷◌, ◌++◌, Option, Some, None, slice_get}
 use Rattle.carol_formula.specs.Linear.{Linear}
 use Rattle.carol_store.specs.declared.shape.CellKind.{CellKind}
-use Rattle.carol_store.specs.declared.shape.CellKind.TheVariants.{Flag}
+use Rattle.carol_store.specs.declared.shape.CellKind.TheVariants.{Counter, Peak, Flag}
 use Rattle.carol_program.specs.declared.steps.Part.{Part}
 use Rattle.carol_program.specs.Bodies.{Body, Query, Issue, Release, Branch, Return}
 use Rattle.carol_obligation.specs.Ways.{Way, Asks, Puts, Frees, Tests}
@@ -20,11 +20,16 @@ pub record Site : Type 0 where
   pub number : ℕ
   pub ending : Ending
 
+-- the place of an amount of a cell of this kind
+abbrev pub bounded_site : Way → ℕ → ℕ → Part → CellKind → List Site
+bounded_site way number atom part kind = record { way = way; number = number; ending = Amount atom kind part } ∷ []
+
 -- what is set in a flag has no bound
 abbrev pub amount_site : Way → ℕ → ℕ → Part → Option CellKind → List Site
 amount_site way number atom part None = []
 amount_site way number atom part (Some Flag) = []
-amount_site way number atom part (Some kind) = record { way = way; number = number; ending = Amount atom kind part } ∷ []
+amount_site way number atom part (Some Counter) = bounded_site way number atom part Counter
+amount_site way number atom part (Some Peak) = bounded_site way number atom part Peak
 
 -- a place for each amount, the first of them of the atom with this number
 abbrev pub amount_sites : List CellKind → Way → ℕ → ℕ → List Part → List Site

@@ -14,7 +14,7 @@ ghost use Rattle.carol_obligation.specs.Formed.{
 use crate::names::{GuardNames, RoundNames, round_variable};
 use crate::rows::{with_flags, with_more};
 use carol_formula::{Boxed, Formula, renamed};
-use carol_program::Program;
+use carol_program::{FIRST_QUERIED, Program, STORE_VARIABLES};
 use std::alloc::{AllocError, Global};
 
 /// The store of a round is one of the shape, and the invariant is true of it.
@@ -68,7 +68,8 @@ pub(crate) fn with_query(
 {
     let formula = renamed(alloc, guard_of(program, guard), &GuardNames { slot, round })?;
     let known = with_more(alloc, known, formula)?;
-    let flags = with_flags(alloc, program.shape.kinds(), 64 + 16 * slot, known)?;
+    let first = FIRST_QUERIED + STORE_VARIABLES * slot;
+    let flags = with_flags(alloc, program.shape.kinds(), first, known)?;
     Ok(flags)
 }
 

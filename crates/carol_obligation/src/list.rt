@@ -39,9 +39,9 @@ impl Collector for Keeper {
     }
 }
 
-/// All that a program owes, its places in the order of the text. Each formula is true of exactly the
-/// numbers that are no breach at its place. No number in it or in its denial is wide, and neither
-/// has more than 65,536 nodes.
+/// All that a program owes, its places in the order of the text. Each formula is true of exactly
+/// the numbers that are no breach at its place. No number in it or in its denial is 2^90 or more
+/// in absolute value, and neither has more than 65,536 nodes.
 pub fn obligations(alloc: Global, program: &Program) -> Result<ObligationList, AllocError>
     requires { AreRules (rules_in program.now) }
     ensures formulas { IfOk result (λ list. owed_in list ≡ obligations_of (rules_in program.now)) }

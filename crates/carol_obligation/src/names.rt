@@ -6,7 +6,7 @@ ghost use Rattle.carol_program.specs.Limits.{most_statements};
 ghost use Rattle.carol_obligation.specs.Decoded.{round_variable};
 
 use carol_formula::{Naming, Term, Variable, plus};
-use carol_program::Part;
+use carol_program::{FIRST_QUERIED, FIRST_THERE, Part, RESULT_VARIABLE, STORE_VARIABLES};
 use carol_reading::amount_for;
 use carol_store::CellKind;
 use std::alloc::{AllocError, Global};
@@ -48,10 +48,14 @@ impl Naming for GuardNames {
     ghost can_name = { λ n v. (v < 32) × (n.slot < most_queries) × (n.round ≤ most_statements) };
 
     fn name(&self, alloc: Global, v: Variable) -> Result<Term, AllocError> {
-        if v.0 < 16 {
-            Term::variable(alloc, Variable(64 + 16 * self.slot + v.0))
+        if v.0 < FIRST_THERE {
+            let first = FIRST_QUERIED + STORE_VARIABLES * self.slot;
+            Term::variable(alloc, Variable(first + v.0))
         } else {
-            Term::variable(alloc, Variable(round_variable(self.round, v.0 - 16)))
+            Term::variable(
+                alloc,
+                Variable(round_variable(self.round, v.0 - FIRST_THERE)),
+            )
         }
     }
 }
@@ -151,8 +155,8 @@ impl<'a> Naming for ResultNames<'a> {
     }
 }
 
-// The variable of the result.
-const RESULT_VARIABLE: u32 = 48;
+// The variable of the first cell of the store of the first round.
+const FIRST_ROUND: u32 = 192;
 
 /// A cell of the store of a round, the first of which is 0.
 pub(crate) fn round_variable(round: u32, cell: u32) -> u32
@@ -160,5 +164,5 @@ pub(crate) fn round_variable(round: u32, cell: u32) -> u32
     requires cell { cell < 16 }
     ensures { result ≡ round_variable round cell }
 {
-    192 + 16 * round + cell
+    FIRST_ROUND + STORE_VARIABLES * round + cell
 }

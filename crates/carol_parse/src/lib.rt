@@ -21,8 +21,6 @@ mod sessions;
 mod shape;
 mod stages;
 mod statements;
-#[cfg(test)]
-mod tests;
 mod text;
 
 pub use carol_grammar::TextLimit;

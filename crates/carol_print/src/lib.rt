@@ -13,8 +13,6 @@ mod programs;
 mod readback;
 mod scenes;
 mod terms;
-#[cfg(test)]
-mod tests;
 mod whole;
 
 pub use laying::{canonical_is_laid_out, laid_out};

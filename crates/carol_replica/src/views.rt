@@ -4,6 +4,7 @@ ghost use Rattle.carol_store.specs.Effects.{IsEffect};
 ghost use Rattle.carol_store.specs.Stores.{IsStore, StaysInWords, apply, apply_all, StayInWords};
 ghost use Rattle.carol_holding.specs.Held.{holds};
 ghost use Rattle.carol_replica.specs.Entries.{held_entries};
+
 use crate::journal::Journal;
 use carol_holding::Holding;
 use carol_store::{Effect, Shape, Store};
@@ -26,12 +27,9 @@ pub fn view(
         initial.now }
 {
     let mut store = initial.copy();
-    let mut left = journal.entries();
-    let mut entry = 0;
-    while let Some((effect, more)) = left.split_first() {
-        apply_held(shape, &mut store, effect, holding.has(replica, entry));
-        left = more;
-        entry += 1;
+    for entry in 0..journal.len() {
+        let effect = journal.entry(shape, entry);
+        apply_held(shape, &mut store, &effect, holding.has(replica, entry));
     }
     store
 }
@@ -59,10 +57,8 @@ pub fn whole(shape: &Shape, initial: &Store, journal: &Journal) -> Store
     ensures { result ≡ apply_all shape.now journal.now.entries initial.now }
 {
     let mut store = initial.copy();
-    let mut left = journal.entries();
-    while let Some((effect, more)) = left.split_first() {
-        store.apply(shape, effect);
-        left = more;
+    for entry in 0..journal.len() {
+        store.apply(shape, &journal.entry(shape, entry));
     }
     store
 }

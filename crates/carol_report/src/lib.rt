@@ -16,6 +16,6 @@ mod whole;
 
 pub use laws::turns_laws;
 pub use rounds::run_in_turns;
-pub use script::{Played, run_script};
+pub use script::run_script;
 pub use text::summary;
 pub use whole::report;

@@ -1,4 +1,4 @@
-ghost use Rattle.std.specs.Prelude.{◌≡◌, ◌↔◌, ◌+◌, ◌<◌, ◌≤◌, true, length, IfOk, OnOk};
+ghost use Rattle.std.specs.Prelude.{◌≡◌, ◌↔◌, ◌+◌, ◌<◌, ◌≤◌, true, length, OnOk};
 ghost use Rattle.carol_house.specs.House.{IsOverSame, rules_of};
 ghost use Rattle.carol_report.specs.Turns.{Continues, IsOver, Turn, TurnOfEach, Turns};
 
@@ -9,20 +9,19 @@ use std::alloc::AllocError;
 /// Advances the sessions in turn, the first one first: each that has a command under way makes one
 /// event a turn, until all commands are done or the history has 131,072 events. Memory for this
 /// many steps is taken at the start, and what they don't need of it is left.
-pub fn run_in_turns(house: House, steps: u32) -> Result<House, AllocError>
+pub fn run_in_turns(house: &mut House, steps: u32) -> Result<(), AllocError>
     requires { steps ≤ MOST_EVENTS }
-    ensures over { IfOk result (λ new. IsOverSame house new) }
-    ensures turns { IfOk result
-        (λ new. Turns (rules_of house) house.scene house.history new.history) }
-    ensures room { IfOk result
-        (λ new. steps + length house.history ≤ new.spare + length new.history) }
+    ensures over { OnOk result (IsOverSame house.old house.new) }
+    ensures turns { OnOk result (Turns (rules_of house.old) house.old.scene
+        house.old.history house.new.history) }
+    ensures room { OnOk result (steps + length house.old.history
+        ≤ house.new.spare + length house.new.history) }
 {
-    let mut house = house;
     house.reserve(steps)?;
-    while !is_over(&house) {
-        take_turns(&mut house)?;
+    while !is_over(house) {
+        take_turns(house)?;
     }
-    Ok(house)
+    Ok(())
 }
 
 // Whether all commands are done, or there may be no more events.

@@ -13,18 +13,18 @@ use Rattle.carol_meaning.specs.declared.fault.Fault.{Fault}
 use Rattle.carol_meaning.specs.declared.named.Named.{Named}
 use Rattle.carol_meaning.specs.declared.named.Named.TheVariants.{Cell, Members, Missing, Misused}
 use Rattle.carol_meaning.specs.Faults.{earliest}
-use Rattle.carol_meaning.specs.Bodies.{Around, Point, in_body, path_fault, change_faults, amount_faults, is_among, again_faults, seen_with, atom_faults, target, issue_faults, part_of, parts_of}
+use Rattle.carol_meaning.specs.Bodies.{Around, Point, in_body, path_fault, change_faults, amount_faults, has_number, again_faults, seen_with, atom_faults, target, issue_faults, part_of, parts_of}
 use Rattle.carol_resolve.specs.Issues.{HasSame}
 
 -- ---- a set of numbers as a list of them
 
-pub among-keys : (n : ℕ) (keys : List ℕ) → list_any (nat_eq n) keys ≡ is_among n keys
+pub among-keys : (n : ℕ) (keys : List ℕ) → list_any (nat_eq n) keys ≡ has_number n keys
 among-keys n [] = refl
 among-keys n (k ∷ ks) = ap (λ b. n == k || b) (among-keys n ks)
 
-among-append : (n k : ℕ) (keys : List ℕ) → is_among n (keys ++ k ∷ []) ≡ is_among n (k ∷ keys)
+among-append : (n k : ℕ) (keys : List ℕ) → has_number n (keys ++ k ∷ []) ≡ has_number n (k ∷ keys)
 among-append n k [] = refl
-among-append n k (m ∷ ms) = ap (λ b. n == m || b) (among-append n k ms) ∙ swapped (n == m) (n == k) (is_among n ms)
+among-append n k (m ∷ ms) = ap (λ b. n == m || b) (among-append n k ms) ∙ swapped (n == m) (n == k) (has_number n ms)
   where
     swapped : (a b c : Bool) → (a || (b || c)) ≡ (b || (a || c))
     swapped true true c = refl
@@ -36,10 +36,10 @@ or-known true c h = h refl
 or-known false c h = refl
 
 -- a number that is there already makes no difference
-among-again : (n k : ℕ) (keys : List ℕ) → is_among k keys ≡ true → is_among n keys ≡ is_among n (k ∷ keys)
-among-again n k keys h = or-known (n == k) (is_among n keys) (λ e. subst (λ m. is_among m keys ≡ true) (sym (eqb-true n k e)) h)
+among-again : (n k : ℕ) (keys : List ℕ) → has_number k keys ≡ true → has_number n keys ≡ has_number n (k ∷ keys)
+among-again n k keys h = or-known (n == k) (has_number n keys) (λ e. subst (λ m. has_number m keys ≡ true) (sym (eqb-true n k e)) h)
 
-insert-if : (b : Bool) (n k : ℕ) (keys : List ℕ) → b ≡ is_among k keys → is_among n (if b then keys else keys ++ k ∷ []) ≡ is_among n (k ∷ keys)
+insert-if : (b : Bool) (n k : ℕ) (keys : List ℕ) → b ≡ has_number k keys → has_number n (if b then keys else keys ++ k ∷ []) ≡ has_number n (k ∷ keys)
 insert-if true n k keys h = among-again n k keys (sym h)
 insert-if false n k keys h = among-append n k keys
 

@@ -10,7 +10,8 @@ use Rattle.carol_meaning.specs.declared.meaning.Meaning.{Meaning}
 use Rattle.carol_meaning.specs.declared.meaning.Meaning.TheVariants.{Parameter, Elsewhere}
 use Rattle.carol_meaning.specs.Declarations.{is_among}
 use Rattle.carol_meaning.specs.Scopes.{Scope, meaning_of, unless_known, declared}
-use Rattle.carol_meaning.specs.Operations.{with_params, with_queries, words}
+use Rattle.carol_meaning.specs.Operations.{with_params, with_queries}
+use Rattle.carol_meaning.specs.Stores.{words}
 
 -- the scope has a meaning for the word
 abbrev pub is_known : List ℕ → Scope → Bool

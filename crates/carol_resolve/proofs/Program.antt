@@ -20,9 +20,9 @@ use Rattle.carol_meaning.specs.Faults.{earliest, fault_at, IsFirst}
 use Rattle.carol_meaning.specs.Declarations.{twice_in, too_many}
 use Rattle.carol_meaning.specs.Cells.{cell_faults, titles_in}
 use Rattle.carol_meaning.specs.Terms.{formula_faults}
-use Rattle.carol_meaning.specs.Stores.{in_invariant, in_guard}
+use Rattle.carol_meaning.specs.Stores.{in_invariant, in_guard, words}
 use Rattle.carol_meaning.specs.Bodies.{Around}
-use Rattle.carol_meaning.specs.Operations.{words, op_faults}
+use Rattle.carol_meaning.specs.Operations.{op_faults}
 use Rattle.carol_meaning.specs.Programs.{around, list_faults, program_faults, names_of}
 use Rattle.carol_names.proofs.NameLaws.{earliest-two, earliest-three}
 use Rattle.carol_meaning.proofs.Lists.{first-none}

@@ -1,5 +1,5 @@
 -- How many parts of a program can be numbered.
-use Rattle.std.specs.Prelude.{ℕ, ◌≤◌, length}
+use Rattle.std.specs.Prelude.{◌≤◌, length}
 use Rattle.std.specs.List.{AllByRecursion}
 use Rattle.carol_syntax.specs.Files.{OpTree, ProgramTree}
 use Rattle.carol_syntax.specs.Size.{cell_total}

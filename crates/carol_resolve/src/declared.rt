@@ -2,7 +2,7 @@ ghost use Rattle.std.specs.Prelude.{◌≡◌, ◌++◌, ◌∷◌, [], map, OnO
 ghost use Rattle.carol_syntax.specs.Bodies.{body_tree};
 ghost use Rattle.carol_syntax.specs.Files.{op_tree};
 ghost use Rattle.carol_meaning.specs.Faults.{earliest};
-ghost use Rattle.carol_meaning.specs.Bodies.{names_along, queries_named, names_of, queries_of};
+ghost use Rattle.carol_meaning.specs.Bodies.{names_along, queries_named, names_within, queries_within};
 ghost use Rattle.carol_meaning.specs.Operations.{op_declared, declared_faults};
 
 use carol_names::{Finder, note_too_many, note_twice};
@@ -28,7 +28,7 @@ impl<'a> Declared<'a> {
         ensures names { IfOk result (λ d.
             map (λ i. i.now) d.names.items ≡ op_declared (op_tree op.entry.now)) }
         ensures queries { IfOk result (λ d.
-            map (λ i. i.now) d.queries.items ≡ queries_of (body_tree op.entry.now.body)) }
+            map (λ i. i.now) d.queries.items ≡ queries_within (body_tree op.entry.now.body)) }
     {
         let mut names = Vec::new(alloc);
         for param in op.params.as_slice() {
@@ -43,9 +43,9 @@ impl<'a> Declared<'a> {
     // The names of a body and of its branches behind those before.
     fn push_body(&mut self, body: &'a Body) -> Result<(), AllocError>
         ensures names { OnOk result (map (λ i. i.now) self.new.names.items ≡
-            map (λ i. i.now) self.old.names.items ++ names_of (body_tree body.entry.now)) }
+            map (λ i. i.now) self.old.names.items ++ names_within (body_tree body.entry.now)) }
         ensures queries { OnOk result (map (λ i. i.now) self.new.queries.items ≡
-            map (λ i. i.now) self.old.queries.items ++ queries_of (body_tree body.entry.now)) }
+            map (λ i. i.now) self.old.queries.items ++ queries_within (body_tree body.entry.now)) }
     {
         self.push_along(body.plain.as_slice())?;
         match body.last.get() {
@@ -102,7 +102,7 @@ pub(crate) fn note_declared(
 ) -> Result<(), AllocError>
     requires names { map (λ i. i.now) declared.now.names.items ≡ op_declared (op_tree op.now) }
     requires queries { map (λ i. i.now) declared.now.queries.items ≡
-        queries_of (body_tree op.now.body) }
+        queries_within (body_tree op.now.body) }
     ensures { OnOk result (finder.new ≡ earliest finder.old (declared_faults (op_tree op.now))) }
 {
     note_twice(alloc, finder, declared.names.as_slice())?;

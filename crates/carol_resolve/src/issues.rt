@@ -3,7 +3,7 @@ ghost use Rattle.std.specs.List.{AllByRecursion};
 ghost use Rattle.carol_syntax.specs.Shape as shape;
 ghost use Rattle.carol_meaning.specs.Sizes.{IsShortChange, IsShortAtom};
 ghost use Rattle.carol_meaning.specs.Faults.{earlier, earliest};
-ghost use Rattle.carol_meaning.specs.Bodies.{in_body, path_fault, suits, change_faults, amount_faults, again_faults, seen_with, atom_faults, target, issue_faults, number_of, amount_of, part_of, parts_of};
+ghost use Rattle.carol_meaning.specs.Bodies.{in_body, path_fault, suits, change_faults, amount_faults, again_faults, seen_with, atom_faults, target, issue_faults, cell_number, amount_of, part_of, parts_of};
 ghost use Rattle.carol_resolve.specs.Issues.{HasSame};
 
 use crate::around::Around;
@@ -120,8 +120,8 @@ fn amount(
 }
 
 // The number of a cell, 0 for what is none.
-fn number_of(found: Named) -> u32
-    ensures { result ≡ number_of found }
+fn cell_number(found: Named) -> u32
+    ensures { result ≡ cell_number found }
 {
     match found {
         Named::Cell { number, kind: _ } => number,
@@ -151,7 +151,7 @@ fn part(
     note_change(alloc, finder, &atom.path, &atom.change, found)?;
     let amount = amount(alloc, finder, around, at, &atom.change)?;
     Ok(Part {
-        cell: number_of(found),
+        cell: cell_number(found),
         amount,
     })
 }

@@ -1,5 +1,5 @@
 ghost use Rattle.std.specs.Prelude.{◌≡◌, map, IfOk};
-ghost use Rattle.carol_meaning.specs.Operations.{words};
+ghost use Rattle.carol_meaning.specs.Stores.{words};
 
 use carol_names::Declares;
 use carol_program::{Name, NameList};

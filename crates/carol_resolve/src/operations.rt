@@ -5,7 +5,7 @@ ghost use Rattle.carol_syntax.specs.Files.{op_tree};
 ghost use Rattle.carol_syntax.specs.Shape.{IsOp};
 ghost use Rattle.carol_meaning.specs.Sizes.{IsShortOp};
 ghost use Rattle.carol_meaning.specs.Faults.{earliest};
-ghost use Rattle.carol_meaning.specs.Bodies.{queries_of};
+ghost use Rattle.carol_meaning.specs.Bodies.{queries_within};
 ghost use Rattle.carol_resolve.specs.Counts.{HasFewParams};
 ghost use Rattle.carol_meaning.specs.Operations.{op_faults, op_meaning, op_names};
 
@@ -21,7 +21,7 @@ use std::alloc::{AllocError, Global};
 
 // What an operation and its parts are called; the queries are these.
 fn names(alloc: Global, op: &OpDecl, queries: &[&Ident]) -> Result<OpNames, AllocError>
-    requires { map (λ i. i.now) queries.now ≡ queries_of (body_tree op.now.body) }
+    requires { map (λ i. i.now) queries.now ≡ queries_within (body_tree op.now.body) }
     ensures { IfOk result (λ n. n ≡ op_names (op_tree op.now)) }
 {
     let own = Name::new(alloc, op.name.word.bytes())?;

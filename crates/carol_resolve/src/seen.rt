@@ -1,5 +1,5 @@
 ghost use Rattle.std.specs.Prelude.{◌≡◌, ◌∷◌, [], OnOk, IfOk, not};
-ghost use Rattle.carol_meaning.specs.Bodies.{is_among};
+ghost use Rattle.carol_meaning.specs.Bodies.{has_number};
 ghost use Rattle.carol_resolve.specs.Issues.{HasSame};
 
 use indexmap::IndexSet;
@@ -32,7 +32,7 @@ impl Seen {
 
     /// One cell more. Tells whether it was not there.
     pub(crate) fn add(&mut self, cell: u32) -> Result<bool, AllocError>
-        ensures fresh { IfOk result (λ fresh. fresh ≡ not (is_among cell self.old)) }
+        ensures fresh { IfOk result (λ fresh. fresh ≡ not (has_number cell self.old)) }
         ensures added { OnOk result (HasSame self.new (cell ∷ self.old)) }
     {
         let fresh = self.cells.insert(cell)?;

@@ -2,7 +2,7 @@ ghost use Rattle.std.specs.Prelude.{◌≡◌, ◌≤◌, [], map, length, OnOk,
 ghost use Rattle.carol_syntax.specs.Bodies.{body_tree};
 ghost use Rattle.carol_syntax.specs.Files.{param_tree, op_tree};
 ghost use Rattle.carol_names.specs.Numbered.{most_numbers};
-ghost use Rattle.carol_meaning.specs.Bodies.{queries_of};
+ghost use Rattle.carol_meaning.specs.Bodies.{queries_within};
 ghost use Rattle.carol_meaning.specs.Scopes.{meaning_of, declared};
 ghost use Rattle.carol_meaning.specs.Operations.{with_params, refinement_scope};
 ghost use Rattle.carol_meaning.specs.declared.meaning.Meaning.TheVariants.{Elsewhere};
@@ -54,7 +54,7 @@ pub(crate) fn refinement_scope<'a>(
     queries: &[&'a Ident],
 ) -> Result<Scope<'a>, AllocError>
     requires params { params.now ≡ with_params 0 [] (op_tree op.now).params }
-    requires queries { map (λ i. i.now) queries.now ≡ queries_of (body_tree op.now.body) }
+    requires queries { map (λ i. i.now) queries.now ≡ queries_within (body_tree op.now.body) }
     ensures { IfOk result (λ s. s ≡ refinement_scope (op_tree op.entry.now)) }
 {
     let mut scope = Scope::new(alloc);

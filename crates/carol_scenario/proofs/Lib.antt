@@ -2,5 +2,3 @@ pub mod Fits
 pub mod Firsts
 pub mod Commands
 pub mod Valid
-pub mod Generating
-pub mod Short

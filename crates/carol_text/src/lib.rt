@@ -11,6 +11,3 @@ mod read;
 pub use bad_byte::BadByte;
 pub use print::push_integer;
 pub use read::{expect, integer, number, wide_integer, wide_number};
-
-#[cfg(test)]
-mod tests;

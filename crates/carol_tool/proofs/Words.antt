@@ -6,9 +6,11 @@ use Rattle.std.proofs.lemmas.Bool.Decides.{nat_tests}
 use Rattle.std.proofs.lemmas.List.{append-nil}
 use lib.Pointwise.{bytes_decides}
 use Rattle.carol_text.specs.Number.{starts_with_digit}
-use Rattle.carol_scenario.specs.declared.generator.TheConstants.{MOST_PER_SESSION}
-use Rattle.carol_tool.specs.Words.{command_of, spelled_count}
+use Rattle.carol_generator.specs.declared.generator.TheConstants.{MOST_PER_SESSION}
+use Rattle.carol_tool.specs.Words.{IsCounted, command_of, spelled_count}
+use Rattle.carol_tool.specs.declared.command.Command.{Command}
 use Rattle.carol_tool.specs.declared.command.Command.TheVariants as command
+use Rattle.carol_tool.specs.declared.command.Word.TheVariants as asked
 
 -- a list of one element is that element
 pub single : {A : Type 0} (xs : List A) (x : A) → 1 ≤ length xs → length xs < 2 → x ≡ get_or xs 0 x → xs ≡ x ∷ []
@@ -18,7 +20,7 @@ single (y ∷ z ∷ zs) x low high e = absurd (omega arith)
 
 -- one of four commands is the last only where its own word was given
 only_run : (a b c d : Bool)
-    → (if a then Some command.Audit else if b then Some command.Check else if c then Some command.Step else if d then Some command.Run else None) ≡ Some command.Run
+    → (if a then Some (command.Read asked.Audit) else if b then Some (command.Read asked.Check) else if c then Some (command.Read asked.Step) else if d then Some command.Run else None) ≡ Some command.Run
     → d ≡ true
 only_run true b c d e = cc
 only_run false true c d e = cc
@@ -28,7 +30,7 @@ only_run false false false false e = cc
 
 -- none of them takes a number
 never_counted : (a b c d : Bool) (n : ℕ)
-    → (if a then Some command.Audit else if b then Some command.Check else if c then Some command.Step else if d then Some command.Run else None) ≡ Some (command.Gen n)
+    → (if a then Some (command.Read asked.Audit) else if b then Some (command.Read asked.Check) else if c then Some (command.Read asked.Step) else if d then Some command.Run else None) ≡ Some (command.Gen n)
     → ⊥
 never_counted true b c d n e = cc
 never_counted false true c d n e = cc
@@ -140,3 +142,9 @@ gen_within [] n e = cc
 gen_within (word ∷ []) n e = absurd (never_counted (bytes_eq word (codes "audit")) (bytes_eq word (codes "check")) (bytes_eq word (codes "step")) (bytes_eq word (codes "run")) n e)
 gen_within (word ∷ count ∷ []) n e = spelled_within MOST_PER_SESSION count n (counted_is (bytes_eq word (codes "gen")) (spelled_count MOST_PER_SESSION count) n e)
 gen_within (word ∷ count ∷ next ∷ more) n e = cc
+
+pub counted_of : (words : List (List ℕ)) (asked : Option Command) → asked ≡ command_of words → IsCounted asked
+counted_of words None e = tt
+counted_of words (Some (command.Read word)) e = tt
+counted_of words (Some (command.Gen n)) e = gen_within words n (sym e)
+counted_of words (Some command.Run) e = tt

@@ -1,15 +1,2 @@
 pub mod Words
-pub mod Texts
-pub mod Reply
-pub mod Told
-pub mod Check
-pub mod Staged
-pub mod Stages
-pub mod Step
-pub mod Audit
-pub mod Run
-pub mod Gen
-pub mod Says
 pub mod Answer
-pub mod AuditLaws
-pub mod Status

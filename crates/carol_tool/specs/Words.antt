@@ -1,9 +1,17 @@
--- The words of a command line, and the command that they are.
-use Rattle.std.specs.Prelude.{List, ℕ, zero, suc, [], ◌∷◌, map, codes, decimal, bytes_eq, if◌then◌else◌, Option, Some, None, option_map, Vec}
+-- The words of a command line, the command that they are, and what it means.
+use Rattle.std.specs.Prelude.{◌≤◌, List, ℕ, zero, suc, [], ◌∷◌, map, codes, decimal, bytes_eq, if◌then◌else◌, Option, Some, None, option_map, Vec}
 use Rattle.std.specs.declared.alloc.Global.{Global}
-use Rattle.carol_scenario.specs.declared.generator.TheConstants.{MOST_PER_SESSION}
+use Rattle.carol_reply.specs.Meaning.{Meaning}
+use Rattle.carol_generator.specs.declared.generator.TheConstants.{MOST_PER_SESSION}
 use Rattle.carol_tool.specs.declared.command.Command.{Command}
 use Rattle.carol_tool.specs.declared.command.Command.TheVariants as command
+use Rattle.carol_tool.specs.declared.command.Word.{Word}
+use Rattle.carol_tool.specs.declared.command.Word.TheVariants as word
+use Rattle.carol_words.specs.Audit.{audit_meaning}
+use Rattle.carol_words.specs.Check.{check_meaning}
+use Rattle.carol_words.specs.Gen.{gen_meaning}
+use Rattle.carol_words.specs.Run.{run_meaning}
+use Rattle.carol_words.specs.Step.{step_meaning}
 
 -- the bytes of each word
 abbrev pub texts : List (Vec ℕ Global) → List (List ℕ)
@@ -18,12 +26,28 @@ spelled_count (suc most) word =
 -- the command that the words are, if they are one
 abbrev pub command_of : List (List ℕ) → Option Command
 command_of [] = None
-command_of (word ∷ []) =
-    if bytes_eq word (codes "audit") then Some command.Audit
-    else if bytes_eq word (codes "check") then Some command.Check
-    else if bytes_eq word (codes "step") then Some command.Step
-    else if bytes_eq word (codes "run") then Some command.Run else None
-command_of (word ∷ count ∷ []) =
-    if bytes_eq word (codes "gen") then option_map command.Gen (spelled_count MOST_PER_SESSION count)
+command_of (text ∷ []) =
+    if bytes_eq text (codes "audit") then Some (command.Read word.Audit)
+    else if bytes_eq text (codes "check") then Some (command.Read word.Check)
+    else if bytes_eq text (codes "step") then Some (command.Read word.Step)
+    else if bytes_eq text (codes "run") then Some command.Run else None
+command_of (text ∷ count ∷ []) =
+    if bytes_eq text (codes "gen") then option_map command.Gen (spelled_count MOST_PER_SESSION count)
     else None
-command_of (word ∷ count ∷ next ∷ more) = None
+command_of (text ∷ count ∷ next ∷ more) = None
+
+-- what a word means that reads its input
+abbrev pub word_meaning : Word → Meaning
+word_meaning word.Audit = audit_meaning
+word_meaning word.Check = check_meaning
+word_meaning word.Step = step_meaning
+
+abbrev pub meaning_of : Command → Meaning
+meaning_of (command.Read word) = word_meaning word
+meaning_of (command.Gen count) = gen_meaning count
+meaning_of command.Run = run_meaning
+
+-- the number of a command is in range
+abbrev pub IsCounted : Option Command → Type 0
+IsCounted (Some (command.Gen count)) = (1 ≤ count) × (count ≤ MOST_PER_SESSION)
+IsCounted asked = Unit {0}

@@ -1,25 +1,23 @@
-ghost use Rattle.std.specs.Prelude.{◌≡◌, ◌≢◌, ◌↔◌, ◌≤◌, [], ◌∷◌, Some, length, IsTrue, IfOk, codes};
+ghost use Rattle.std.specs.Prelude.{◌≡◌, ◌≢◌, ◌≤◌, [], ◌∷◌, Some, length, IfOk, codes};
 ghost use Rattle.carol_outer.specs.Faults.{Rose};
+ghost use Rattle.carol_reply.specs.Meaning.{IsReply};
+ghost use Rattle.carol_reply.specs.Reply.{answer_of, outcome_answer};
+ghost use Rattle.carol_generator.specs.declared.generator.TheConstants.{MOST_PER_SESSION};
 ghost use Rattle.carol_syntax.specs.Limits.{most_text_bytes};
-ghost use Rattle.carol_tool.specs.Answer.{Answered, IsReply, Meant, MeantBy, Wrote, end_of};
-ghost use Rattle.carol_tool.specs.Reply.{answer_of, outcome_answer};
-ghost use Rattle.carol_tool.specs.Says.{ReadsAll};
-ghost use Rattle.carol_tool.specs.Texts.{stop_answer};
-ghost use Rattle.carol_tool.specs.Words.{texts};
+ghost use Rattle.carol_tool.specs.Answer.{Answered, AnsweredBy, End, MeantBy, Wrote, end_of};
+ghost use Rattle.carol_tool.specs.Words.{IsCounted, texts, word_meaning};
 
-use super::audit::audit;
-use super::check::check;
-use super::command::{Command, command_of};
-use super::reply::{Reply, Stop};
-use super::run::run;
-use super::status::Status;
-use super::step::step;
-use super::sum_up::sum_up;
+use super::command::{Command, Word, command_of};
 use carol_outer::{Gate, Sink, Source, read_all, write_all};
+use carol_reply::{Reply, Status, Stop};
 use carol_syntax::MOST_TEXT_BYTES;
+use carol_words::{audit_bytes, check_bytes, run_bytes, step_bytes, sum_up};
 use std::alloc::{AllocError, Global};
 use std::sync::Wait;
 use std::thread::Threads;
+
+// The text of the answer to words that are no command.
+const USAGE: &[u8] = b"usage: carol check, step, run, audit or gen N\n";
 
 /// Does what the words of a command line say, of which the single word `run` is no part: reads the
 /// source, writes one text to the sink and answers the status. `ReadFault` and `WriteFault` come
@@ -43,7 +41,7 @@ pub fn plain<R: Threads + Sync, S: Source, K: Sink>(
     ensures write_fault { result ≡ Status.WriteFault
         → Rose (K.faults sink.old) (K.faults sink.new) }
 {
-    answer(sink, &reply(rt, alloc, words, source))
+    answer_plain(rt, alloc, command_of(words), source, sink)
 }
 
 /// Does what the words of a command line say: reads the source, writes one text to the sink and
@@ -72,80 +70,81 @@ pub fn carol<R: Threads + Wait + Sync, S: Source, K: Sink, G: Gate + Sync>(
     ensures write_fault { result ≡ Status.WriteFault
         → Rose (K.faults sink.old) (K.faults sink.new) }
 {
-    if is_word(words, b"run") {
-        return answer(sink, &run_reply(rt, alloc, source, gate));
-    }
-    plain(rt, alloc, words, source, sink)
-}
-
-// Whether the words are this word alone.
-fn is_word(words: &[Vec<u8>], word: &[u8]) -> bool
-    ensures { IsTrue result ↔ (texts words.now ≡ word.now ∷ []) }
-{
-    match words {
-        [only] => only.as_slice() == word,
-        _ => false,
+    let command = command_of(words);
+    match command {
+        Some(Command::Run) => answer(sink, &run_reply(rt, alloc, source, gate)),
+        Some(Command::Read(_)) | Some(Command::Gen(_)) | None => {
+            answer_plain(rt, alloc, command, source, sink)
+        }
     }
 }
 
-// Does what the words say, with what the source gives. They aren't the single word `run`.
-fn reply<R: Threads + Sync, S: Source>(
+// Does the command, which waits for nobody, and answers it, or that the words are none.
+fn answer_plain<R: Threads + Sync, S: Source, K: Sink>(
     rt: &R,
     alloc: Global,
-    words: &[Vec<u8>],
+    command: Option<Command>,
     source: &mut S,
-) -> Result<Reply, Stop>
-    requires { texts words.now ≢ codes "run" ∷ [] }
-    ensures { let answer = outcome_answer result in
-        Meant (texts words.now)
+    sink: &mut K,
+) -> Status
+    requires plain { command ≢ Some Command.Run }
+    requires counted { IsCounted command }
+    ensures { AnsweredBy command
         (end_of (S.left source.old) (S.faults source.old))
         (end_of (S.left source.new) (S.faults source.new))
-        answer.0 answer.1 }
+        (end_of (K.taken sink.old) (K.faults sink.old))
+        (end_of (K.taken sink.new) (K.faults sink.new))
+        result }
 {
-    match command_of(words) {
-        None => Err(Stop::Usage),
-        Some(Command::Gen(count)) => Ok(sum_up(rt, alloc, count)?),
-        Some(command) => read_reply(rt, alloc, command, source),
+    match command {
+        Some(Command::Read(word)) => answer(sink, &read_reply(rt, alloc, word, source)),
+        Some(Command::Gen(count)) => answer(sink, &gen_reply(rt, alloc, count)),
+        Some(Command::Run) | None => say(sink, Status::Usage, USAGE),
     }
 }
 
-// Does the command, which reads its input and isn't `run`, with what the source gives.
+// Does what the word says, with what the source gives.
 fn read_reply<R: Threads + Sync, S: Source>(
     rt: &R,
     alloc: Global,
-    command: Command,
+    word: Word,
     source: &mut S,
 ) -> Result<Reply, Stop>
-    requires plain { command ≢ Command.Run }
-    requires reads { ReadsAll command }
     ensures { let answer = outcome_answer result in
-        MeantBy (Some command)
+        MeantBy (Some (Command.Read word))
         (end_of (S.left source.old) (S.faults source.old))
         (end_of (S.left source.new) (S.faults source.new))
         answer.0 answer.1 }
 {
     let bytes = read_all(alloc, source, MOST_TEXT_BYTES)?;
-    Ok(command_reply(rt, alloc, command, &bytes)?)
+    Ok(word_reply(rt, alloc, word, &bytes)?)
 }
 
-// Does the command on these bytes.
-fn command_reply<R: Threads + Sync>(
+// Does what the word says, with these bytes.
+fn word_reply<R: Threads + Sync>(
     rt: &R,
     alloc: Global,
-    command: Command,
+    word: Word,
     bytes: &[u8],
 ) -> Result<Reply, AllocError>
-    requires plain { command ≢ Command.Run }
-    requires reads { ReadsAll command }
-    requires short { length bytes.now ≤ most_text_bytes }
-    ensures { IfOk result (λ reply. IsReply command bytes.now (answer_of reply)) }
+    requires { length bytes.now ≤ most_text_bytes }
+    ensures { IfOk result (λ reply. IsReply (word_meaning word) bytes.now (answer_of reply)) }
 {
-    match command {
-        Command::Audit => audit(rt, alloc, bytes),
-        Command::Check => check(rt, alloc, bytes),
-        Command::Step => step(rt, alloc, bytes),
-        Command::Run | Command::Gen(_) => unreachable!(),
+    match word {
+        Word::Audit => audit_bytes(rt, alloc, bytes),
+        Word::Check => check_bytes(rt, alloc, bytes),
+        Word::Step => step_bytes(rt, alloc, bytes),
     }
+}
+
+// Does what the word `gen` says with this number. Nothing is read, whatever the source.
+fn gen_reply<R: Threads + Sync>(rt: &R, alloc: Global, count: u32) -> Result<Reply, Stop>
+    requires some { 1 ≤ count }
+    requires few { count ≤ MOST_PER_SESSION }
+    ensures { let answer = outcome_answer result in (end : End)
+        → MeantBy (Some (Command.Gen count)) end end answer.0 answer.1 }
+{
+    Ok(sum_up(rt, alloc, count)?)
 }
 
 // Does what the single word `run` says, with what the source gives.
@@ -161,8 +160,8 @@ fn run_reply<R: Threads + Wait + Sync, S: Source, G: Gate + Sync>(
         (end_of (S.left source.new) (S.faults source.new))
         answer.0 answer.1 }
 {
-    let text = read_all(alloc, source, MOST_TEXT_BYTES)?;
-    Ok(run(rt, alloc, &text, gate)?)
+    let bytes = read_all(alloc, source, MOST_TEXT_BYTES)?;
+    Ok(run_bytes(rt, alloc, &bytes, gate)?)
 }
 
 // Writes the text of what a command came to, and answers its status unless writing failed.

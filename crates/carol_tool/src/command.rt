@@ -1,39 +1,30 @@
-ghost use Rattle.std.specs.Prelude.{◌≡◌, Some, [], ◌∷◌};
-ghost use Rattle.carol_tool.specs.Texts.{command_word};
-ghost use Rattle.carol_tool.specs.Words.{texts, command_of, spelled_count};
+ghost use Rattle.std.specs.Prelude.{◌≡◌, [], ◌∷◌};
+ghost use Rattle.carol_tool.specs.Words.{command_of, spelled_count, texts};
 
-use carol_scenario::MOST_PER_SESSION;
+use carol_generator::MOST_PER_SESSION;
 use carol_text::number;
-use std::fmt;
 
-/// What the program is asked to do.
+/// A word that reads its input, and waits for nobody.
 #[derive(Clone, Copy, Debug, PartialEq, Eq)]
-pub enum Command {
+pub enum Word {
     /// To say whether a transcript is that of a history.
     Audit,
     /// To say whether the program of a file is accepted.
     Check,
     /// To carry out the script of a file.
     Step,
-    /// To run the scene of a file in threads.
-    Run,
+}
+
+/// What the program is asked to do.
+#[derive(Clone, Copy, Debug, PartialEq, Eq)]
+pub enum Command {
+    /// What the word says.
+    Read(Word),
     /// To make a large input with so many commands in each session, from 1 to 256, and sum up what
     /// comes of it.
     Gen(u32),
-}
-
-impl fmt::Display for Command {
-    ghost output = { λ command. Some (command_word command) };
-
-    fn fmt<W: fmt::Write>(&self, f: &mut fmt::Formatter<W>) -> fmt::Result {
-        match self {
-            Command::Audit => write!(f, "audit"),
-            Command::Check => write!(f, "check"),
-            Command::Step => write!(f, "step"),
-            Command::Run => write!(f, "run"),
-            Command::Gen(count) => write!(f, "gen {count}"),
-        }
-    }
+    /// To run the scene of a file in threads.
+    Run,
 }
 
 /// The command that the words are, if they are one.
@@ -52,13 +43,13 @@ fn command_named(word: &[u8]) -> Option<Command>
     ensures { result ≡ command_of (word.now ∷ []) }
 {
     if word == b"audit".as_slice() {
-        return Some(Command::Audit);
+        return Some(Command::Read(Word::Audit));
     }
     if word == b"check".as_slice() {
-        return Some(Command::Check);
+        return Some(Command::Read(Word::Check));
     }
     if word == b"step".as_slice() {
-        return Some(Command::Step);
+        return Some(Command::Read(Word::Step));
     }
     if word == b"run".as_slice() {
         return Some(Command::Run);

@@ -1,5 +1,5 @@
 -- What the verdict on the formulas of operations' places says of the operations.
-use Rattle.std.proofs.Common.{◌≡◌, ℕ, ◌+◌, Result, Ok, Err, List, [], ◌∷◌, ◌++◌, length, sym, ◌∙◌, subst}
+use Rattle.std.proofs.Common.{ℕ, ◌+◌, Result, Ok, Err, List, [], ◌∷◌, sym, ◌∙◌, subst}
 use Rattle.std.specs.Prelude.{ℤ, IfOk, map}
 use Rattle.std.specs.List.{AllByRecursion}
 use Rattle.std.specs.declared.alloc.AllocError.{AllocError}

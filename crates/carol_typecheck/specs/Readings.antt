@@ -1,5 +1,5 @@
 -- The verdict on a program, in terms of what its operations may do.
-use Rattle.std.specs.Prelude.{◌≡◌, ℕ, List, ℤ}
+use Rattle.std.specs.Prelude.{◌≡◌, ℕ, false, List, ℤ}
 use Rattle.std.specs.List.{AllByRecursion}
 use Rattle.carol_formula.specs.Claim.{without_not}
 use Rattle.carol_formula.specs.Numbers.{number_at}

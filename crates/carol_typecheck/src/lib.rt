@@ -11,10 +11,8 @@
 
 mod batch;
 mod decider;
+mod direct;
 mod judge;
-mod judging;
-#[cfg(test)]
-mod tests;
 mod verdict;
 
 ghost use Rattle.std.specs.Prelude.{[], ◌∷◌, IfOk, length};
@@ -24,7 +22,7 @@ ghost use Rattle.carol_reading.specs.Good.{IsGood};
 ghost use Rattle.carol_typecheck.specs.Readings.{AreGood, IsFailure, IsVerdictFor, IsVerdictOver};
 
 use crate::decider::Decider;
-use crate::judging::Judging;
+use crate::direct::Judging;
 use carol_obligation::{walk, walk_all};
 use carol_program::{Op, Program};
 use std::alloc::{AllocError, Global};

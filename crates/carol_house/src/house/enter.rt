@@ -167,9 +167,8 @@ impl House {
         store_laws();
         self.tables.holding.add(target, entry);
         let shape = &self.accepted.program().shape;
-        self.tables
-            .replicas
-            .arrive(shape, target, self.tables.journal.entry(entry));
+        let effect = self.tables.journal.entry(shape, entry);
+        self.tables.replicas.arrive(shape, target, &effect);
         self.events.push_reserved(Event::Deliver {
             source,
             target,

@@ -250,7 +250,6 @@ fn is_settled(tables: &Tables, accepted: &Accepted, replica: u32, guard: u32, en
         return true;
     }
     let shape = &accepted.program().shape;
-    accepted
-        .accords()
-        .admits(shape, guard, tables.journal.entry(entry))
+    let effect = tables.journal.entry(shape, entry);
+    accepted.accords().admits(shape, guard, &effect)
 }

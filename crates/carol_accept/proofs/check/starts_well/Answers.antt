@@ -1,4 +1,3 @@
-use Rattle.std.proofs.Common.{length}
 use Rattle.carol_formula.specs.Tree.{claim_of}
 use Rattle.carol_program.specs.Variables.{invariant_variables, number_in}
 use Rattle.carol_reading.proofs.Fitting.{claim_fits}

@@ -1,4 +1,4 @@
-use Rattle.std.proofs.Common.{◌≡◌, ◌++◌, ◌-◌, [], ◌∷◌, length}
+use Rattle.std.proofs.Common.{◌≡◌, ◌++◌, ◌-◌, length}
 use Rattle.std.specs.Prelude.{codes}
 use Rattle.carol_accept.specs.Texts.{guards_text, line_feed}
 use Rattle.carol_accept.proofs.text.accord_text.Given as goal

@@ -1,6 +1,4 @@
-use Rattle.std.proofs.Common.{◌≡◌, ◌++◌, drop, [], ◌∷◌}
-use Rattle.std.specs.Prelude.{codes}
-use Rattle.std.specs.Fmt.{decimal}
+use Rattle.std.proofs.Common.{◌≡◌, ◌++◌, drop}
 use Rattle.carol_accept.specs.Texts.{cells_text, guard_text}
 use Rattle.carol_accept.proofs.text.push_guard.Given as goal
 

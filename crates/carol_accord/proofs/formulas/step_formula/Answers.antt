@@ -1,4 +1,4 @@
-use Rattle.std.proofs.Common.{length, ◌<◌}
+use Rattle.std.proofs.Common.{◌<◌}
 use Rattle.carol_formula.specs.Tree.{claim_of}
 use Rattle.carol_program.specs.Variables.{guard_variables}
 use Rattle.carol_accord.specs.Formed.{step_name}

@@ -1,4 +1,4 @@
-use Rattle.std.proofs.Common.{arith, length, subst}
+use Rattle.std.proofs.Common.{arith, subst}
 use Rattle.std.specs.Prelude.{IsSomeAnd}
 use Rattle.std.proofs.lemmas.List.{length-map}
 use Rattle.carol_formula.specs.Tree.{claim_of}

@@ -1,4 +1,4 @@
-use Rattle.std.proofs.Common.{◌≡◌, [], ◌∙◌, ap, subst, sym}
+use Rattle.std.proofs.Common.{[], ◌∙◌, ap, subst, sym}
 use Rattle.carol_program.specs.Rules.{rules_in}
 use Rattle.carol_obligation.specs.Keeping.{AreDecidable, AreKept}
 use Rattle.carol_obligation.specs.Listed.{owed_in}

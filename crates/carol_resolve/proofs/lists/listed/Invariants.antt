@@ -1,5 +1,5 @@
 use Rattle.std.proofs.Common.{◌≡◌, ◌++◌, map, drop}
-use Rattle.carol_meaning.specs.Operations.{words}
+use Rattle.carol_meaning.specs.Stores.{words}
 use Rattle.carol_resolve.proofs.lists.listed.Given as goal
 
 abbrev pub invariant-loop-item : goal.invariant-loop-item

@@ -1,6 +1,7 @@
 use Rattle.std.proofs.Common.{◌≡◌, [], map, drop}
 use Rattle.carol_syntax.specs.Files.{op_tree}
-use Rattle.carol_meaning.specs.Operations.{with_queries, words, param_names}
+use Rattle.carol_meaning.specs.Operations.{with_queries, param_names}
+use Rattle.carol_meaning.specs.Stores.{words}
 use Rattle.carol_resolve.proofs.spaces.refinement_scope.Given as goal
 
 abbrev pub invariant-loop-name : goal.invariant-loop-name

@@ -1,0 +1,5 @@
+pub mod Bytes
+pub mod Named
+pub mod Verdicts
+pub mod Scenes
+pub mod Parts

@@ -1,0 +1,4 @@
+pub mod Texts
+pub mod Reply
+pub mod Meaning
+pub mod Status

@@ -1,6 +1,0 @@
-use Rattle.carol_tool.proofs.Audited.{told_found}
-use Rattle.carol_tool.proofs.audit.find.Goals as goal
-
-pub returns : goal.returns
-returns c =
-    told_found c.args.tail.now c.args.accepted c.args.scene c.in_ok-finding.finding c.finding_reply.result c.in_ok-finding.ensures.tells c.in_ok-finding.ensures.only c.finding_reply.ensures

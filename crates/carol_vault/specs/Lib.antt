@@ -1,5 +1,0 @@
-pub mod Finding
-pub mod Laws
-pub mod Opening
-pub mod Steps
-pub mod Vaults

@@ -1,0 +1,9 @@
+pub mod Accorded
+pub mod Checked
+pub mod Fresh
+pub mod Stepped
+pub mod Ran
+pub mod Turned
+pub mod Summed
+pub mod Audited
+pub mod Genuine
