@@ -64,7 +64,13 @@ pub fn check_within(formula: &Formula, tree: &Refutation, most: u32) -> bool
 {
     let formulas = slice::from_ref(formula);
     match walk(&Place::root(formulas), tree) {
-        Some(walk) => { if walk.has_gap { false } else { walk.turns <= most } }
+        Some(walk) => {
+            if walk.has_gap {
+                false
+            } else {
+                walk.turns <= most
+            }
+        }
         None => false,
     }
 }

@@ -49,11 +49,7 @@ fn differences(alloc: Global, rows: &[Row]) -> Result<Option<DiffAnswer>, AllocE
 }
 
 // What elimination says of the rows: nothing where it finds no room.
-fn eliminated(
-    alloc: Global,
-    rows: &[Row],
-    allowance: &mut Allowance,
-) -> Result<Tried, AllocError>
+fn eliminated(alloc: Global, rows: &[Row], allowance: &mut Allowance) -> Result<Tried, AllocError>
     requires { length rows.now ≤ 2 ^ 29 }
     ensures { IfOk result (IsTried (terms_of rows.now)) }
 {
@@ -72,11 +68,7 @@ fn eliminated(
 }
 
 // What the rows say, without branches.
-fn try_rows(
-    alloc: Global,
-    rows: &[Row],
-    allowance: &mut Allowance,
-) -> Result<Tried, AllocError>
+fn try_rows(alloc: Global, rows: &[Row], allowance: &mut Allowance) -> Result<Tried, AllocError>
     requires count { length rows.now ≤ 2 ^ 29 }
     requires narrow { All IsNarrow rows.now }
     ensures { IfOk result (IsTried (terms_of rows.now)) }

@@ -38,11 +38,7 @@ fn met(formula: &Formula, leaves: u32, values: Valuation) -> Option<Answer>
 }
 
 /// What a search finds, which promises nothing, where it stands the test.
-pub fn tested(
-    alloc: Global,
-    formula: &Formula,
-    leaves: u32,
-) -> Result<Option<Answer>, AllocError>
+pub fn tested(alloc: Global, formula: &Formula, leaves: u32) -> Result<Option<Answer>, AllocError>
     requires no_not { HasNoNot (claim_of formula.now) }
     requires most { leaves ≤ 1000000 }
     ensures answer { IfOk result (λ o. IfSome o (IsAnswer (claim_of formula.now) leaves)) }

@@ -260,13 +260,7 @@ impl<'a> Walk<'a> {
                 whole,
                 low,
                 high,
-            } => match attempt(
-                alloc,
-                formula,
-                &self.pieces,
-                self.left,
-                &mut self.allowance,
-            )? {
+            } => match attempt(alloc, formula, &self.pieces, self.left, &mut self.allowance)? {
                 Some(found) => self.conclude(alloc, found),
                 None => {
                     self.take_low(at, whole, low, high)?;

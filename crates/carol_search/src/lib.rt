@@ -1,5 +1,7 @@
 //! A search for numbers that make a formula true, or for a refutation of it. It is quick on what
 //! people write, and promises nothing: what it finds is to be tested.
+//!
+//! Layer: solver. Called by `carol_decide`, which tests what it finds.
 #![tactic(auto)]
 
 mod cut;

@@ -1,4 +1,3 @@
-use Rattle.std.proofs.Common.{◌≡◌, ℕ, ◌+◌, ◌-◌, ◌*◌, ◌<◌, ◌≤◌, length}
 use Rattle.carol_search.proofs.state.State.+is_dead_within.Given as goal
 
 -- proposed from what the function passes where it calls itself
