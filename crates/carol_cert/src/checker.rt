@@ -1,4 +1,4 @@
-ghost use Rattle.std.specs.Prelude.{◌≡◌, ◌↔◌, ◌<◌, ◌+◌, ◌^◌, ◌||◌, ◌+ℤ◌, pos, SomeIff, [], ◌∷◌, ◌++◌, length, map, slice_get, slice_set, IsTrue, IfSome};
+ghost use Rattle.std.specs.Prelude.{◌≡◌, ◌↔◌, ◌<◌, ◌≤◌, ◌+◌, ◌-◌, ◌^◌, ◌||◌, ◌+ℤ◌, pos, SomeIff, [], ◌∷◌, ◌++◌, length, map, slice_get, slice_set, IsTrue, IfSome};
 ghost use Rattle.std.specs.Option.{option_map};
 ghost use Rattle.carol_formula.specs.Bounds.{IsBelow, value_limit};
 ghost use Rattle.carol_formula.specs.Claim.{Claim};
@@ -50,6 +50,29 @@ pub fn check(formula: &Formula, tree: &Refutation) -> bool
     ensures sound { IsTrue result → IsNeverTrue (claim_of formula.now) }
 {
     check_list(slice::from_ref(formula), tree)
+}
+
+/// Whether the tree refutes the formula in at most so many turns: leaves that close their lists, and
+/// branches.
+pub fn check_within(formula: &Formula, tree: &Refutation, most: u32) -> bool
+    requires { most < 2 ^ 32 - 1 }
+    ensures refutes { IsTrue result
+        → Refutes (proof_of tree.now) (claim_of formula.now ∷ []) }
+    ensures turns { IsTrue result → turns_of (proof_of tree.now) ≤ most }
+    ensures exact { Refutes (proof_of tree.now) (claim_of formula.now ∷ [])
+        → turns_of (proof_of tree.now) ≤ most → IsTrue result }
+{
+    let formulas = slice::from_ref(formula);
+    match walk(&Place::root(formulas), tree) {
+        Some(walk) => {
+            if walk.has_gap {
+                false
+            } else {
+                walk.turns <= most
+            }
+        }
+        None => false,
+    }
 }
 
 /// Whether the tree refutes the list of formulas. If it does, no valuation makes all of them true.

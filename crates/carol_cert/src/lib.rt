@@ -15,7 +15,7 @@ mod step;
 mod tests;
 mod tree;
 
-pub use checker::{check, check_list, turns, turns_list};
+pub use checker::{check, check_list, check_within, turns, turns_list};
 pub use leaf::leaf_closes;
 pub use place::{Item, Place};
 pub use step::{RowStep, StepList};

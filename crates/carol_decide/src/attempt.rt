@@ -19,7 +19,7 @@ use crate::piece::Piece;
 use crate::table::{Table, table_of};
 use carol_cert::{Refutation, StepList};
 use carol_difference::{DiffAnswer, DiffError, decide_difference};
-use carol_elimination::{Choice, Outcome, choose, eliminate, variables_of};
+use carol_elimination::{Allowance, Choice, Outcome, choose, eliminate, variables_of};
 use carol_formula::{Formula, Row, Valuation};
 use carol_linear::{RowsAnswer, leaf, search};
 use std::alloc::{AllocError, Global};
@@ -48,13 +48,16 @@ fn differences(alloc: Global, rows: &[Row]) -> Result<Option<DiffAnswer>, AllocE
     }
 }
 
-// What elimination says of the rows.
-fn eliminated(alloc: Global, rows: &[Row]) -> Result<Tried, AllocError>
+// What elimination says of the rows: nothing where it finds no room.
+fn eliminated(alloc: Global, rows: &[Row], allowance: &mut Allowance) -> Result<Tried, AllocError>
     requires { length rows.now ≤ 2 ^ 29 }
     ensures { IfOk result (IsTried (terms_of rows.now)) }
 {
     let variables = variables_of(alloc, rows)?;
-    match eliminate(alloc, rows, &variables)? {
+    let Ok(outcome) = eliminate(alloc, rows, &variables, allowance) else {
+        return Ok(Tried::Nothing);
+    };
+    match outcome {
         Outcome::Absurd(steps) => Ok(Tried::Refuted(steps)),
         Outcome::Quiet(elimination) => match choose(alloc, rows, &variables, &elimination)? {
             Choice::Model(values) => Ok(Tried::Numbers(values)),
@@ -65,7 +68,7 @@ fn eliminated(alloc: Global, rows: &[Row]) -> Result<Tried, AllocError>
 }
 
 // What the rows say, without branches.
-fn try_rows(alloc: Global, rows: &[Row]) -> Result<Tried, AllocError>
+fn try_rows(alloc: Global, rows: &[Row], allowance: &mut Allowance) -> Result<Tried, AllocError>
     requires count { length rows.now ≤ 2 ^ 29 }
     requires narrow { All IsNarrow rows.now }
     ensures { IfOk result (IsTried (terms_of rows.now)) }
@@ -75,7 +78,7 @@ fn try_rows(alloc: Global, rows: &[Row]) -> Result<Tried, AllocError>
             DiffAnswer::Refuted(steps) => Ok(Tried::Refuted(steps)),
             DiffAnswer::Model(values) => Ok(Tried::Numbers(values)),
         },
-        None => eliminated(alloc, rows),
+        None => eliminated(alloc, rows, allowance),
     }
 }
 
@@ -92,8 +95,8 @@ fn closed(alloc: Global, steps: &StepList, table: &Table) -> Result<Found, Alloc
     })
 }
 
-// Whether the formula is true of the numbers, and each of its terms can be added up.
-fn is_met(formula: &Formula, values: &Valuation) -> bool
+/// Whether the formula is true of the numbers, and each of its terms can be added up.
+pub fn is_met(formula: &Formula, values: &Valuation) -> bool
     ensures { IsTrue result → ClaimFits (claim_of formula.now) (number_at values.now)
         × IsTrue (truth (claim_of formula.now) (number_at values.now)) }
 {
@@ -106,6 +109,7 @@ pub fn attempt(
     formula: &Formula,
     pieces: &[Piece<'_>],
     left: u32,
+    allowance: &mut Allowance,
 ) -> Result<Option<Found>, AllocError>
     requires plain { HasNoNot (claim_of formula.now) }
     requires ready { AreReady (claims_in pieces.now) }
@@ -115,7 +119,7 @@ pub fn attempt(
         (IsFound (claim_of formula.now) (claims_in pieces.now) left)) }
 {
     let table = table_of(alloc, pieces)?;
-    match try_rows(alloc, &table.rows)? {
+    match try_rows(alloc, &table.rows, allowance)? {
         Tried::Refuted(steps) => Ok(Some(closed(alloc, &steps, &table)?)),
         Tried::Numbers(values) => {
             if is_met(formula, &values) {
@@ -134,6 +138,7 @@ fn searched(
     pieces: &[Piece<'_>],
     table: &Table,
     left: u32,
+    allowance: &mut Allowance,
 ) -> Result<Found, AllocError>
     requires count { length pieces.now ≤ 2 ^ 28 }
     requires rows { AreRows (claims_in pieces.now) }
@@ -143,7 +148,14 @@ fn searched(
         → Lead (claim ∷ []) frames (claims_in pieces.now)
         → IsFound claim (claims_in pieces.now) left found) }
 {
-    match search(alloc, &table.rows, &table.names, pieces.len() as u32, left)? {
+    match search(
+        alloc,
+        &table.rows,
+        &table.names,
+        pieces.len() as u32,
+        left,
+        allowance,
+    )? {
         RowsAnswer::Refuted(tree) => {
             let turns = count_turns(alloc, &tree)?;
             Ok(Found::Closed { tree, turns })
@@ -156,7 +168,12 @@ fn searched(
 }
 
 /// What there is at a place where nothing is left to be taken apart.
-pub fn settle(alloc: Global, pieces: &[Piece<'_>], left: u32) -> Result<Found, AllocError>
+pub fn settle(
+    alloc: Global,
+    pieces: &[Piece<'_>],
+    left: u32,
+    allowance: &mut Allowance,
+) -> Result<Found, AllocError>
     requires ready { AreReady (claims_in pieces.now) }
     requires rows { AreRows (claims_in pieces.now) }
     requires count { length pieces.now ≤ 2 ^ 28 }
@@ -171,6 +188,6 @@ pub fn settle(alloc: Global, pieces: &[Piece<'_>], left: u32) -> Result<Found, A
             DiffAnswer::Refuted(steps) => Ok(closed(alloc, &steps, &table)?),
             DiffAnswer::Model(values) => Ok(Found::Model(values)),
         },
-        None => searched(alloc, pieces, &table, left),
+        None => searched(alloc, pieces, &table, left, allowance),
     }
 }

@@ -20,8 +20,10 @@ mod found;
 mod frame;
 mod piece;
 mod table;
+mod tested;
 mod walk;
 
+use crate::tested::tested;
 use crate::walk::Walk;
 pub use answer::{Answer, MOST_LEAVES, Why};
 use carol_formula::Formula;
@@ -41,6 +43,9 @@ pub fn decide(alloc: Global, formula: &Formula, leaves: u32) -> Result<Answer, A
     ensures answer { IfOk result (IsAnswer (claim_of formula.now) leaves) }
     ensures settles { IfOk result (Settles (claim_of formula.now) leaves) }
 {
+    if let Some(answer) = tested(alloc, formula, leaves)? {
+        return Ok(answer);
+    }
     let mut walk = Walk::new(alloc, formula, leaves)?;
     loop {
         if let Some(answer) = walk.step(alloc, formula)? {

@@ -15,6 +15,7 @@ use crate::found::Found;
 use crate::frame::Frame;
 use crate::piece::Piece;
 use carol_cert::Refutation;
+use carol_elimination::Allowance;
 use carol_formula::{Boxed, Formula};
 use std::alloc::{AllocError, Global};
 
@@ -27,7 +28,12 @@ pub struct Walk<'a> {
     pub from: u32,
     /// How many turns may be taken.
     pub left: u32,
+    /// How much may be eliminated.
+    pub allowance: Allowance,
 }
+
+// Some two seconds.
+const ALLOWED: u64 = 4_000_000;
 
 // The tree that takes an `And` apart.
 fn part(alloc: Global, at: u32, rest: Refutation) -> Result<Refutation, AllocError>
@@ -63,6 +69,7 @@ impl<'a> Walk<'a> {
             frames: Vec::new(alloc),
             from: 0,
             left: leaves,
+            allowance: Allowance::new(ALLOWED),
         })
     }
 
@@ -253,7 +260,7 @@ impl<'a> Walk<'a> {
                 whole,
                 low,
                 high,
-            } => match attempt(alloc, formula, &self.pieces, self.left)? {
+            } => match attempt(alloc, formula, &self.pieces, self.left, &mut self.allowance)? {
                 Some(found) => self.conclude(alloc, found),
                 None => {
                     self.take_low(at, whole, low, high)?;
@@ -261,7 +268,7 @@ impl<'a> Walk<'a> {
                 }
             },
             Next::Settle => {
-                let found = settle(alloc, &self.pieces, self.left)?;
+                let found = settle(alloc, &self.pieces, self.left, &mut self.allowance)?;
                 self.conclude(alloc, found)
             }
         }

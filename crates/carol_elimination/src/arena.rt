@@ -23,8 +23,8 @@ impl Model for Arena {
     ghost view = { λ arena. arena.entries.items };
 }
 
-// How many rows have a number of their own.
-const MOST_ROWS: usize = 1 << 32;
+// How many rows there is room for.
+const MOST_ROWS: usize = 20_000;
 
 impl Arena {
     /// No rows.
@@ -44,7 +44,7 @@ impl Arena {
         &self.entries[at as usize].1
     }
 
-    /// Appends a row, whose number it answers. There is no room for more than 2^32 rows.
+    /// Appends a row, whose number it answers. There is no room for more than 20,000 rows.
     pub fn push(&mut self, step: RowStep, row: Term) -> Result<u32, AllocError>
         ensures number { IfOk result (λ at. at ≡ length self.old) }
         ensures ok { IfOk result (λ _. self.new ≡ self.old ++ (step, row) ∷ []) }

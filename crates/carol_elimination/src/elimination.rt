@@ -6,6 +6,7 @@ ghost use Rattle.carol_elimination.specs.Stands.{Stand};
 ghost use Rattle.carol_elimination.specs.Entries.{terms_of, row_in, rows_in, AreInside};
 ghost use Rattle.carol_elimination.specs.Outcome.{AreSound, IsOutcome};
 
+use crate::allowance::Allowance;
 use crate::arena::Arena;
 use crate::next::{Stop, next};
 use crate::stage::Stage;
@@ -81,8 +82,14 @@ fn is_absurd(row: &Term) -> bool
 }
 
 /// Eliminates all variables, which are those of the given rows in ascending order. It ends at the
-/// first stage with an absurd row, and at the first combination that is too wide.
-pub fn eliminate(alloc: Global, given: &[Row], variables: &[u32]) -> Result<Outcome, AllocError>
+/// first stage with an absurd row, and at the first combination that is too wide. Beyond what is
+/// allowed there is no room for more rows.
+pub fn eliminate(
+    alloc: Global,
+    given: &[Row],
+    variables: &[u32],
+    allowance: &mut Allowance,
+) -> Result<Outcome, AllocError>
     requires count { length given.now < 2 ^ 32 }
     requires variables { variables.now ≡ all_variables (terms_of given.now) }
     ensures { IfOk result (IsOutcome (terms_of given.now) variables.now) }
@@ -94,7 +101,7 @@ pub fn eliminate(alloc: Global, given: &[Row], variables: &[u32]) -> Result<Outc
         if let Some(at) = absurd(&arena, &rows) {
             return Ok(Outcome::Absurd(arena.steps_to(alloc, at)?));
         }
-        match next(alloc, &mut arena, &rows, Variable(*x)) {
+        match next(alloc, &mut arena, &rows, Variable(*x), allowance) {
             Ok(more) => {
                 stages.push(rows)?;
                 rows = more;

@@ -7,6 +7,7 @@
 //! Layer: solver. Called by `carol_linear`.
 #![tactic(auto)]
 
+mod allowance;
 mod arena;
 mod bounds;
 mod choice;
@@ -18,6 +19,7 @@ mod reading;
 mod stage;
 mod tightening;
 
+pub use allowance::Allowance;
 pub use arena::Arena;
 pub use choice::{Choice, choose};
 pub use elimination::{Elimination, Outcome, eliminate};

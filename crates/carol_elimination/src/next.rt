@@ -10,6 +10,7 @@ ghost use Rattle.carol_elimination.specs.Entries.{row_in, rows_in, AreInside, Gr
 ghost use Rattle.carol_elimination.specs.Extends.{Extend};
 ghost use Rattle.carol_elimination.specs.Sides.{is_of, ArePairs, AreAllPairs, KeepDerived, IsStop};
 
+use crate::allowance::Allowance;
 use crate::arena::Arena;
 use crate::combination::combine;
 use crate::stage::Stage;
@@ -167,6 +168,7 @@ fn combine_all(
     x: Variable,
     uppers: &[u32],
     lowers: &[u32],
+    allowance: &mut Allowance,
 ) -> Result<(), Stop>
     requires inside { AreInside arena.old stage.old.rows.items }
     requires uppers { AreInside arena.old uppers.now }
@@ -181,13 +183,21 @@ fn combine_all(
     ensures stop { IfErr result (IsStop x arena.old arena.new) }
 {
     for upper in uppers {
+        allowance.take(lowers.len())?;
         combine_one(stage, arena, x, *upper, lowers)?;
     }
     Ok(())
 }
 
 /// The stage after the variable is eliminated. No row of the stage before has a variable below it.
-pub fn next(alloc: Global, arena: &mut Arena, rows: &[u32], x: Variable) -> Result<Vec<u32>, Stop>
+/// Beyond what is allowed there is no room for more rows.
+pub fn next(
+    alloc: Global,
+    arena: &mut Arena,
+    rows: &[u32],
+    x: Variable,
+    allowance: &mut Allowance,
+) -> Result<Vec<u32>, Stop>
     requires inside { AreInside arena.old rows.now }
     requires lowest { (v : ℕ) → v < x → IsFree v (rows_in arena.old rows.now) }
     ensures inside { IfOk result (λ v. AreInside arena.new v.items) }
@@ -197,11 +207,12 @@ pub fn next(alloc: Global, arena: &mut Arena, rows: &[u32], x: Variable) -> Resu
     ensures derived { OnOk result (KeepDerived arena.old arena.new) }
     ensures stop { IfErr result (IsStop x arena.old arena.new) }
 {
+    allowance.take(rows.len())?;
     let free = select(alloc, arena, rows, x, Side::Free)?;
     let uppers = select(alloc, arena, rows, x, Side::Upper)?;
     let lowers = select(alloc, arena, rows, x, Side::Lower)?;
     let mut stage = Stage::new(alloc);
     keep_all(&mut stage, arena, &free)?;
-    combine_all(&mut stage, arena, x, &uppers, &lowers)?;
+    combine_all(&mut stage, arena, x, &uppers, &lowers, allowance)?;
     Ok(stage.into_rows())
 }

@@ -16,8 +16,12 @@ ghost use Rattle.carol_linear.specs.Place.{names_from};
 
 use crate::state::State;
 use carol_cert::RowStep;
+use carol_elimination::Allowance;
 use carol_formula::Row;
 use std::alloc::{AllocError, Global};
+
+// How much is allowed for rows alone.
+const ALLOWED: u64 = 4_000_000;
 
 /// Decides whether the rows can be true together, in at most `leaves` turns: leaves that close
 /// their lists, and branches.
@@ -27,7 +31,15 @@ pub fn decide_rows(alloc: Global, rows: &[Row], leaves: u32) -> Result<RowsAnswe
         IfOk result (IsAnswer (map Le terms) terms leaves) }
 {
     let names = own_names(alloc, rows)?;
-    search(alloc, rows, &names, rows.len() as u32, leaves)
+    let mut allowance = Allowance::new(ALLOWED);
+    search(
+        alloc,
+        rows,
+        &names,
+        rows.len() as u32,
+        leaves,
+        &mut allowance,
+    )
 }
 
 // The names of rows that are the claims themselves.
@@ -44,13 +56,15 @@ fn own_names(alloc: Global, rows: &[Row]) -> Result<Vec<RowStep>, AllocError>
 
 /// Decides whether the claims that the rows stand for can be true together, in at most `leaves`
 /// turns. The name of each row is the step that takes it from the claims, and `claims` is how many
-/// of these there are. There is no room for more than 2^32 rows or claims, with those of branches.
+/// of these there are. There is no room for more than 2^32 rows or claims, with those of branches,
+/// nor for more than is allowed.
 pub fn search(
     alloc: Global,
     rows: &[Row],
     names: &[RowStep],
     claims: u32,
     leaves: u32,
+    allowance: &mut Allowance,
 ) -> Result<RowsAnswer, AllocError>
     ensures { IfOk result (λ a. (list : List Claim) → AreNamed list names.now (terms_of rows.now)
         → AreRows list → rows_at list ≡ terms_of rows.now → length list ≡ claims
@@ -58,7 +72,7 @@ pub fn search(
 {
     let mut state = State::new(alloc, rows, names, claims, leaves)?;
     loop {
-        if let Some(answer) = state.step(alloc, rows, names)? {
+        if let Some(answer) = state.step(alloc, rows, names, allowance)? {
             return Ok(answer);
         }
     }

@@ -12,6 +12,7 @@ use crate::branch::{Frame, branch};
 use crate::place::Place;
 use crate::visit::{Visit, visit_place};
 use carol_cert::{Refutation, RowStep, StepList};
+use carol_elimination::Allowance;
 use carol_formula::Row;
 use std::alloc::{AllocError, Global};
 
@@ -202,6 +203,7 @@ impl State {
         alloc: Global,
         rows: &[Row],
         names: &[RowStep],
+        allowance: &mut Allowance,
     ) -> Result<Option<RowsAnswer>, AllocError>
         requires { 0 < self.old.left }
         ensures next { IfOk result (λ o. (start : Start) → start.rows ≡ terms_of rows.now
@@ -209,7 +211,7 @@ impl State {
         ensures falls { IfOk result (λ o. IfNone o (rank_of self.new < rank_of self.old)) }
     {
         let whole = self.whole(alloc, rows, names)?;
-        match visit_place(alloc, &whole.rows, &whole.names)? {
+        match visit_place(alloc, &whole.rows, &whole.names, allowance)? {
             Visit::Closed(steps) => self.close_by(alloc, steps),
             Visit::Branch(frame) => self.split(alloc, frame),
             Visit::Model(values) => Ok(Some(RowsAnswer::Model(values))),
@@ -239,6 +241,7 @@ impl State {
         alloc: Global,
         rows: &[Row],
         names: &[RowStep],
+        allowance: &mut Allowance,
     ) -> Result<Option<RowsAnswer>, AllocError>
         ensures next { IfOk result (λ o. (start : Start) → start.rows ≡ terms_of rows.now
             → start.names ≡ names.now → IsAt start self.old → IsNext start self.new o) }
@@ -249,12 +252,12 @@ impl State {
             return self.close(alloc, Refutation::Unclosed);
         }
         if self.frames.is_empty() {
-            return self.decide(alloc, rows, names);
+            return self.decide(alloc, rows, names, allowance);
         }
-        match visit_place(alloc, &self.place.rows, &self.place.names)? {
+        match visit_place(alloc, &self.place.rows, &self.place.names, allowance)? {
             Visit::Closed(steps) => self.close_by(alloc, steps),
             Visit::Branch(frame) => self.split(alloc, frame),
-            _ => self.decide(alloc, rows, names),
+            _ => self.decide(alloc, rows, names, allowance),
         }
     }
 }

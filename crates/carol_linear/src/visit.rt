@@ -11,7 +11,9 @@ use crate::answer::Derived;
 use crate::branch::Frame;
 use crate::leaf;
 use carol_cert::{RowStep, StepList};
-use carol_elimination::{Arena, Choice, Elimination, Outcome, choose, eliminate, variables_of};
+use carol_elimination::{
+    Allowance, Arena, Choice, Elimination, Outcome, choose, eliminate, variables_of,
+};
 use carol_formula::{Row, Valuation, Variable};
 use std::alloc::{AllocError, Global};
 
@@ -41,15 +43,20 @@ pub enum Visit {
 const MOST_ROWS: usize = 1 << 32;
 
 /// Eliminates the variables of the rows at a place, and chooses values for them. There is no room
-/// for 2^32 rows.
-pub fn visit_place(alloc: Global, rows: &[Row], names: &[RowStep]) -> Result<Visit, AllocError>
+/// for 2^32 rows, nor for more than is allowed.
+pub fn visit_place(
+    alloc: Global,
+    rows: &[Row],
+    names: &[RowStep],
+    allowance: &mut Allowance,
+) -> Result<Visit, AllocError>
     ensures { IfOk result (IsVisit (terms_of rows.now) names.now) }
 {
     if rows.len() >= MOST_ROWS {
         return Err(AllocError);
     }
     let variables = variables_of(alloc, rows)?;
-    match eliminate(alloc, rows, &variables)? {
+    match eliminate(alloc, rows, &variables, allowance)? {
         Outcome::Quiet(elimination) => chosen(alloc, rows, names, &variables, &elimination),
         Outcome::Absurd(steps) => Ok(Visit::Closed(leaf(alloc, &steps, names)?)),
         Outcome::Wide {
