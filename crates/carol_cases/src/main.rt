@@ -19,9 +19,9 @@ use crate::tally::try_file;
 use std::fs;
 
 // The files of cases.
-const FILES: [&str; 11] = [
-    "words", "texts", "limits", "scenes", "check", "systems", "step", "run", "audit", "cuts",
-    "long",
+const FILES: [&str; 12] = [
+    "tutorial", "words", "texts", "limits", "scenes", "check", "systems", "step", "run", "audit",
+    "cuts", "long",
 ];
 
 fn main(rt: HostRuntime) -> anyhow::Result<()> {

@@ -1,7 +1,7 @@
 -- What the writes and cuts of a file with a gate may leave.
-use Rattle.std.proofs.Common.{◌≡◌, ◌≢◌, ◌⊎◌, ◌<◌, ◌≤◌, ℕ, zero, suc, ◌+◌, min, max, List, [], ◌∷◌, ◌++◌, length, take, drop, get_or, refl, sym, ◌∙◌, ap, subst, inl, inr, arith, append_assoc, append-nil, length-append, length-take, length-drop, take-append-drop}
+use Rattle.std.proofs.Common.{◌≡◌, ◌≤◌, ℕ, zero, suc, ◌+◌, min, List, [], ◌∷◌, ◌++◌, length, take, drop, get_or, refl, sym, ◌∙◌, ap, subst, inl, inr, arith, append_assoc, append-nil, length-append, take-append-drop}
 use Rattle.std.proofs.lemmas.Bool.{cases_eq}
-use Rattle.std.proofs.lemmas.List.{take_at, drop_at, take_all, drop_all, drop_more, take-append-le, drop-append-le, drop-take, take-take}
+use Rattle.std.proofs.lemmas.List.{drop_at, take_all, drop_all, drop_more, take-append-le, drop-take, take-take}
 use Rattle.carol_disk.specs.Disk.{CutBack, Torn, written}
 use Rattle.carol_disk.specs.Gates.{EndsBehind, GrowsBy, IsShut}
 

@@ -32,7 +32,8 @@ pub trait Disk {
     /// Puts the bytes that stand from `at` on at the front of `into` and answers how many: fewer
     /// than there is room for only at the end of the file. It changes nothing.
     fn read(&mut self, at: u64, into: &mut [u8]) -> Result<usize, Failed>
-        ensures count { IfOk result (λ n. n ≡ min (length into.old) (length (seen self.old) - at)) }
+        ensures count { IfOk result
+            (λ n. n ≡ min (length into.old) (length (seen self.old) - at)) }
         ensures bytes { IfOk result (λ n. take n into.new ≡ take n (drop at (seen self.old))) }
         ensures seen { seen self.new ≡ seen self.old }
         ensures kept { kept self.new ≡ kept self.old }

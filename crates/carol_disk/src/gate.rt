@@ -56,7 +56,8 @@ pub fn settle<D: Disk>(disk: &mut D, gate: u64, size: u64) -> Result<(), Failed>
         (EndsBehind (take gate (D.seen disk.old))) }
     ensures ticks { OnOk result (D.moment disk.new ≡
         D.moment disk.old + (if nat_le size 1 then 4 else 2)) }
-    ensures fewer { OnErr result (D.moment disk.new < D.moment disk.old + 4) }
+    ensures fewer { OnErr result (D.moment disk.new <
+        D.moment disk.old + (if nat_le size 1 then 4 else 2)) }
     ensures failed { OnErr result (Rose (D.faults disk.old) (D.faults disk.new)) }
     ensures counted { D.faults disk.old ≤ D.faults disk.new }
     ensures limit { D.limit disk.new ≡ D.limit disk.old }

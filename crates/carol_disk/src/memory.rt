@@ -230,7 +230,8 @@ impl Disk for MemoryDisk {
         ensures crash { Follows (Torn at (at + length bytes.now))
             (MayLeave self.old.first self.old.past) (MayLeave self.new.first self.new.past) }
         ensures ticks { length self.new.past ≡ length self.old.past + ticks_of result }
-        ensures time { Elapses (length self.old.past) (λ t c. LeftSince self.old.first t self.old.past c)
+        ensures time { Elapses (length self.old.past)
+            (λ t c. LeftSince self.old.first t self.old.past c)
             (λ t c. LeftSince self.new.first t self.new.past c)
             (MayLeave self.new.first self.new.past) }
         ensures failed { OnErr result (Rose self.old.failures self.new.failures) }
@@ -255,7 +256,8 @@ impl Disk for MemoryDisk {
         ensures crash { Follows (CutBack end)
             (MayLeave self.old.first self.old.past) (MayLeave self.new.first self.new.past) }
         ensures ticks { length self.new.past ≡ length self.old.past + ticks_of result }
-        ensures time { Elapses (length self.old.past) (λ t c. LeftSince self.old.first t self.old.past c)
+        ensures time { Elapses (length self.old.past)
+            (λ t c. LeftSince self.old.first t self.old.past c)
             (λ t c. LeftSince self.new.first t self.new.past c)
             (MayLeave self.new.first self.new.past) }
         ensures failed { OnErr result (Rose self.old.failures self.new.failures) }
@@ -283,7 +285,8 @@ impl Disk for MemoryDisk {
         ensures crash { (c : List ℕ) → MayLeave self.new.first self.new.past c →
             MayLeave self.old.first self.old.past c }
         ensures ticks { length self.new.past ≡ length self.old.past + ticks_of result }
-        ensures time { Elapses (length self.old.past) (λ t c. LeftSince self.old.first t self.old.past c)
+        ensures time { Elapses (length self.old.past)
+            (λ t c. LeftSince self.old.first t self.old.past c)
             (λ t c. LeftSince self.new.first t self.new.past c)
             (MayLeave self.new.first self.new.past) }
         ensures failed { OnErr result (Rose self.old.failures self.new.failures) }

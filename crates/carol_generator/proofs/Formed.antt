@@ -58,7 +58,7 @@ deposit_formed = (
   (((lit≤ tt, (((lit≤ tt, lit≤ tt, ((refl, lit≤ tt, refl), tt)), amount_formed), tt)), tt), amount_formed),
 )
 
-bank_formed : IsProgram bank
+pub bank_formed : IsProgram bank
 bank_formed = record {
   cells = (((refl, lit≤ tt, refl), lit≤ tt), tt);
   invariant = (balance_formed.0, constant_formed 0 (lit≤ tt));

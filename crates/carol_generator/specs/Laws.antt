@@ -12,8 +12,8 @@ use Rattle.carol_generator.specs.Generated.{bank, generated_file, generated_text
 abbrev pub GeneratedIsRead : Type 0
 GeneratedIsRead = (n : ℕ) → (g : FileTree) × Means (generated_text n) (Read g) × SameButPlaces g (generated_file n)
 
--- nothing is wrong with the names of the file's program, which is the bank's, nor with its scene, its
--- last part
+-- nothing is wrong with the names of the file's program, which is the bank's, nor with its scene,
+-- its last part
 pub record IsFaultless (file : FileTree) : Type 0 where
   pub named : program_faults file.program ≡ []
   pub rules : rules_of file.program ≡ rules_of bank

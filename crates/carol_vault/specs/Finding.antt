@@ -1,5 +1,5 @@
 -- What is found of a file.
-use Rattle.std.specs.Prelude.{◌≡◌, ◌⊎◌, ℕ, ◌+◌, ◌<◌, ◌≤◌, List, [], ◌∷◌, length, reverse, take}
+use Rattle.std.specs.Prelude.{◌≡◌, ◌⊎◌, Bool, true, false, ℕ, ◌+◌, ◌<◌, ◌≤◌, List, [], ◌∷◌, length, reverse, take}
 use Rattle.carol_program.specs.Rules.{Rules, rules_in}
 use Rattle.carol_program.specs.declared.scenes.Scene.{Scene}
 use Rattle.carol_reading.specs.Kept.{Kept}
@@ -7,6 +7,8 @@ use Rattle.carol_event.specs.declared.event.Event.{Event}
 use Rattle.carol_history.specs.declared.history.TheConstants.{MOST_EVENTS}
 use Rattle.carol_history.specs.Runs.{Run}
 use Rattle.carol_house.specs.House.{House}
+use Rattle.carol_audit.specs.declared.ruling.Ruling.{Ruling}
+use Rattle.carol_audit.specs.declared.ruling.Ruling.TheVariants as ruling
 use Rattle.carol_audit.specs.Rulings.{IsFirstFalse, IsGenuine}
 use Rattle.carol_disk.specs.Gates.{IsShut}
 use Rattle.carol_vault.specs.declared.found.Found.{Found}
@@ -73,6 +75,12 @@ pub record Holds
   pub sound : IsSound (rules_in kept.program) scene file events
   pub genuine : IsGenuine kept scene events house
   pub place_is : place ≡ length (records events)
+
+-- what a ruling on the first of its events says of a file, if these are all or if there are more
+abbrev pub found_of : Ruling → ℕ → Bool → Found
+found_of (ruling.FirstFalse number) place all = found.Illegal number
+found_of (ruling.Genuine house) place true = found.Sound house place
+found_of (ruling.Genuine house) place false = found.Illegal (MOST_EVENTS + 1)
 
 -- what is told of a file is found of it
 abbrev pub Tells : Kept → Scene → List ℕ → Found → Type 0

@@ -1,5 +1,5 @@
 -- A history and the disk that keeps it.
-use Rattle.std.specs.Prelude.{◌≡◌, ◌<◌, ◌≤◌, ℕ, ◌-◌, ◌+◌, Bool, true, false, List, [], ◌∷◌, ◌++◌, length, take, drop, reverse, if◌then◌else◌}
+use Rattle.std.specs.Prelude.{◌≡◌, ◌≤◌, ℕ, ◌-◌, ◌+◌, Bool, List, length, take, drop, reverse, if◌then◌else◌}
 use Rattle.carol_event.specs.declared.event.Event.{Event}
 use Rattle.carol_house.specs.House.{House}
 use Rattle.carol_disk.specs.Disk.{Only}
@@ -22,29 +22,26 @@ abbrev pub acknowledged : {D : Type 0} → Vaulted D → ℕ
 acknowledged v = length v.house.history - (if v.closed then 1 else 0)
 
 -- the file shows a front of the house's history, with so many events at least
-abbrev pub Holds : ℕ → House → List ℕ → Type 0
-Holds least house file =
-    (n : ℕ) × (least ≤ n) × (n ≤ length house.history) × Shows file (take n (events_of house))
+pub record Holds (least : ℕ) (house : House) (file : List ℕ) : Type 0 where
+  pub count : ℕ
+  pub enough : least ≤ count
+  pub within : count ≤ length house.history
+  pub shows : Shows file (take count (events_of house))
 
--- whatever a crash leaves shows all that is acknowledged, and so does what was kept by the last sync
-pub record IsKept {D : Type 0} (kept : D → List ℕ) (may_leave : D → List ℕ → Type 0) (v : Vaulted D)
-    : Type 0 where
-  pub crash : (c : List ℕ) → may_leave v.disk c → Holds (acknowledged v) v.house c
-  pub kept_shows : Shows (kept v.disk) (take (acknowledged v) (events_of v.house))
+-- whatever a crash leaves shows so many events of the house at least, and what was there at the last
+-- sync shows these
+pub record IsKept {D : Type 0} (kept : D → List ℕ) (may_leave : D → List ℕ → Type 0)
+    (least : ℕ) (disk : D) (house : House) : Type 0 where
+  pub crash : (c : List ℕ) → may_leave disk c → Holds least house c
+  pub kept_shows : Shows (kept disk) (take least (events_of house))
 
 -- the disk is ready for the next event: its file is the records of all events and a shut gate at
 -- this place, and nothing else can come of a crash
 pub record IsReady {D : Type 0} (seen kept : D → List ℕ) (may_leave : D → List ℕ → Type 0)
-    (v : Vaulted D) (gate : ℕ) : Type 0 where
-  pub front : take gate (seen v.disk) ≡ records (events_of v.house)
-  pub gate_is : gate ≡ length (records (events_of v.house))
-  pub long : length (seen v.disk) ≡ gate + 1
-  pub shut : IsShut (drop gate (seen v.disk))
-  pub durable : Only (seen v.disk) (may_leave v.disk)
-  pub kept_is : kept v.disk ≡ seen v.disk
-
--- how a vault keeps itself
-pub record IsVault {D : Type 0} (seen kept : D → List ℕ) (may_leave : D → List ℕ → Type 0)
-    (v : Vaulted D) (gate : ℕ) : Type 0 where
-  pub keeps : IsKept kept may_leave v
-  pub ready : v.closed ≡ false → IsReady seen kept may_leave v gate
+    (disk : D) (house : House) (gate : ℕ) : Type 0 where
+  pub front : take gate (seen disk) ≡ records (events_of house)
+  pub gate_is : gate ≡ length (records (events_of house))
+  pub long : length (seen disk) ≡ gate + 1
+  pub shut : IsShut (drop gate (seen disk))
+  pub durable : Only (seen disk) (may_leave disk)
+  pub kept_is : kept disk ≡ seen disk

@@ -1,7 +1,7 @@
 ghost use Rattle.std.specs.Prelude.{◌≡◌, ◌<◌, true, false, length, drop, IfOk};
 ghost use Rattle.carol_program.specs.Rules.{rules_in};
 ghost use Rattle.carol_program.specs.Scenes.{IsValidScene};
-ghost use Rattle.carol_vault.specs.Finding.{IsClosed, IsOpen, Tells};
+ghost use Rattle.carol_vault.specs.Finding.{IsClosed, IsOpen, Tells, found_of};
 
 use carol_audit::{Ruling, audit};
 use carol_house::{House, MOST_EVENTS};
@@ -35,19 +35,32 @@ pub fn find(
     if !is_closed(bytes, image.end) {
         return Ok(Found::Damaged(image.end));
     }
-    let few = image.events.len().min(MOST_EVENTS);
-    let (first, more) = image.events.split_at(few);
-    match audit(alloc, accepted, scene, first)? {
-        Ruling::FirstFalse(number) => Ok(Found::Illegal(number)),
+    let events = image.events.as_slice();
+    let few = events.len().min(MOST_EVENTS);
+    let (first, more) = events.split_at(few);
+    let ruling = audit(alloc, accepted, scene, first)?;
+    Ok(found_of(ruling, image.end, more.is_empty()))
+}
+
+// What a ruling on the events says of their file, whose records end at this place, if these are all
+// events of it or if there are more.
+fn found_of(ruling: Ruling, place: usize, all: bool) -> Found
+    ensures { result ≡ found_of ruling place all }
+{
+    match ruling {
+        Ruling::FirstFalse(number) => Found::Illegal(number),
         Ruling::Genuine(house) => {
-            if more.is_empty() {
-                Ok(Found::Sound(house, image.end))
-            } else {
-                Ok(Found::Illegal(MOST_EVENTS as u32 + 1))
+            if all {
+                return Found::Sound(house, place);
             }
+            let_go(house);
+            Found::Illegal(MOST_EVENTS as u32 + 1)
         }
     }
 }
+
+// Lets the house go.
+fn let_go(_house: House) {}
 
 // Whether a shut gate stands at the end of the records, or the file is all but empty.
 fn is_closed(bytes: &[u8], end: usize) -> bool

@@ -6,6 +6,7 @@
 
 mod error;
 mod found;
+mod keeping;
 mod laws;
 mod moves;
 mod open;

@@ -7,8 +7,8 @@ use std::alloc::Global;
 use std::marker::Model;
 
 /// A history that a disk keeps. Contracts see it as the disk, the house with the history, and
-/// whether a call answered `Fault`. At each moment of a call or between two, whatever a crash
-/// leaves shows a front of the history with every acknowledged event.
+/// whether a call answered `Fault`. At each moment, whatever a crash leaves of the disk shows a
+/// front of the history with every acknowledged event.
 #[derive(Drop)]
 pub struct Vault<D: Disk> {
     pub(crate) alloc: Global,
@@ -22,13 +22,15 @@ impl<D: Disk> Model for Vault<D> {
     ghost use Rattle.std.specs.Coded.{codes};
     ghost use Rattle.carol_formula.specs.contracts.formula.Formula as formula;
     ghost use Rattle.carol_program.specs.contracts.steps.Step as step;
-    ghost use Rattle.carol_vault.specs.Vaults.{IsVault, Vaulted};
+    ghost use Rattle.carol_vault.specs.Vaults.{Vaulted};
 
     ghost Value = { Vaulted D };
 
     ghost coded = { Prim.hlevel (codes, D.code, formula.the_row.coded, step.the_row.coded) };
 
     ghost view = { λ v. record { disk = v.disk; house = v.house; closed = v.closed } };
+
+    ghost use Rattle.carol_vault.specs.States.{IsVault};
 
     ghost invariant = { λ v. IsVault D.seen D.kept D.may_leave
         (record { disk = v.disk; house = v.house; closed = v.closed }) v.gate };
@@ -39,7 +41,8 @@ impl<D: Disk> Vault<D> {
     /// answered `Fault`.
     pub fn acknowledged(&self) -> u32
         ensures number { result ≡ acknowledged self.now }
-        ensures kept { IsKept D.kept D.may_leave self.now }
+        ensures kept { IsKept D.kept D.may_leave (acknowledged self.now) self.now.disk
+            self.now.house }
     {
         let events = self.house.history().len() as u32;
         if self.closed {
@@ -52,15 +55,17 @@ impl<D: Disk> Vault<D> {
     /// The house with the history.
     pub fn house(&self) -> &House
         ensures house { result.now ≡ self.now.house }
-        ensures kept { IsKept D.kept D.may_leave self.now }
+        ensures kept { IsKept D.kept D.may_leave (acknowledged self.now) self.now.disk
+            self.now.house }
     {
+        let _closed = self.closed;
         &self.house
     }
 
     /// The disk.
     pub fn close(self) -> D
         ensures disk { result ≡ self.disk }
-        ensures kept { IsKept D.kept D.may_leave self }
+        ensures kept { IsKept D.kept D.may_leave (acknowledged self) self.disk self.house }
     {
         self.disk
     }

@@ -1,10 +1,10 @@
 -- What a file shows once a record was put behind it.
-use Rattle.std.proofs.Common.{◌≡◌, ◌≢◌, ◌⊎◌, ◌≤◌, ℕ, suc, ◌+◌, ◌*◌, List, [], ◌∷◌, ◌++◌, length, take, drop, reverse, refl, sym, ◌∙◌, ap, subst, inl, inr, arith, append-nil, length-append}
+use Rattle.std.proofs.Common.{◌≡◌, ◌⊎◌, ◌≤◌, ℕ, ◌+◌, ◌*◌, List, [], ◌∷◌, ◌++◌, length, take, drop, reverse, refl, sym, ◌∙◌, ap, subst, inl, inr, arith, length-append}
 use Rattle.std.proofs.lemmas.List.{take_at, drop_at, reverse-append}
 use Rattle.carol_event.specs.declared.event.Event.{Event}
 use Rattle.carol_event.specs.Numbers.{Each, HasNumbers}
-use Rattle.carol_disk.specs.Gates.{EndsBehind, GrowsBy, IsShut}
-use Rattle.carol_vault_image.specs.Records.{BeginsNoRecord, IsRead, Shows, body_of, record_of, records}
+use Rattle.carol_disk.specs.Gates.{GrowsBy, IsShut}
+use Rattle.carol_vault_image.specs.Records.{IsRead, Shows, body_of, record_of, records}
 use Rattle.carol_vault_image.proofs.Readings.{each_push, length-records-push, records-push, short_no_record, shut_no_record}
 use Rattle.carol_vault_image.proofs.Sizes.{length-record_of, short_line}
 

@@ -86,3 +86,9 @@ more_are file events event end used are taken =
 pub more_within : (file : List ℕ) (event : Event) (end used : ℕ) → end ≤ length file → drop end file ≡ record_of event ++ drop used (drop end file) → used ≡ length (record_of event) → end + used ≤ length file
 more_within file event end used within taken used_is =
     omega (arith, within, used_is, ap length taken, length-append (record_of event) (drop used (drop end file)), length-drop end file)
+
+-- a file of one byte has no record
+pub short_none : (file : List ℕ) (events : List Event) (end : List ℕ) → file ≡ records events ++ end → length file ≤ 1 → length (records events) ≡ 0
+short_none file [] end are short = refl
+short_none file (event ∷ events) end are short =
+    absurd (omega (arith, ap length are, short, length-append (record_of event ++ records events) end, length-append (record_of event) (records events)))

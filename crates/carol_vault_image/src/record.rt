@@ -1,4 +1,4 @@
-ghost use Rattle.std.specs.Prelude.{◌≡◌, [], ◌∷◌, ◌++◌, IfNone, IfOk, IfSome};
+ghost use Rattle.std.specs.Prelude.{◌≡◌, ◌≤◌, [], ◌∷◌, ◌++◌, length, IfNone, IfOk, IfSome};
 ghost use Rattle.carol_event.specs.declared.event.Event.{Event as EventData};
 ghost use Rattle.carol_event.specs.Numbers.{HasNumbers};
 ghost use Rattle.carol_event.specs.Texts.{event_line};
@@ -21,7 +21,8 @@ pub struct Taken {
 #[tactic(auto, using(crate::proofs::Sizes::short_line))]
 pub fn record_body(alloc: Global, event: &Event) -> Result<Vec<u8>, AllocError>
     requires { HasNumbers event.now }
-    ensures { IfOk result (λ body. body.items ≡ body_of event.now ++ 0 ∷ []) }
+    ensures body { IfOk result (λ body. body.items ≡ body_of event.now ++ 0 ∷ []) }
+    ensures short { IfOk result (λ body. length body.items ≤ 1000) }
 {
     let mut line = Vec::new(alloc);
     print_event(event, &mut line)?;

@@ -1,4 +1,4 @@
-use Rattle.std.proofs.Common.{◌≡◌, ◌+◌, List, ℕ, drop, take, sym, ◌∙◌, ap, subst}
+use Rattle.std.proofs.Common.{◌+◌, List, ℕ, drop, take, sym, subst}
 use Rattle.std.proofs.lemmas.Result.{on_ok_weaker}
 use Rattle.carol_disk.specs.Disk.{CutBack}
 use Rattle.carol_disk.specs.Gates.{EndsBehind, IsShut}

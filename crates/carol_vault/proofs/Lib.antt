@@ -1,0 +1,4 @@
+pub mod Founds
+pub mod Keepings
+pub mod OneFinding
+pub mod Openings

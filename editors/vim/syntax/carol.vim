@@ -1,1 +1,0 @@
-../../../crates/carol_editors/data/carol.vim
