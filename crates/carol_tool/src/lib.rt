@@ -8,4 +8,4 @@ mod command;
 
 pub use call::{carol, plain};
 pub use carol_reply::{Status, number};
-pub use carol_words::audit_laws;
+pub use carol_words::{audit_laws, report_laws};

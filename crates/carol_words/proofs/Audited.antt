@@ -1,5 +1,5 @@
 -- That what `audit` means is settled, and what is told of what was found.
-use Rattle.std.proofs.Common.{◌≡◌, ◌≢◌, List, ℕ, refl, sym, ◌∙◌, ap, subst, inl, inr}
+use Rattle.std.proofs.Common.{◌≡◌, ◌≢◌, ◌≤◌, List, ◌++◌, ℕ, length, refl, sym, ◌∙◌, ap, subst, inl, inr}
 use Rattle.std.specs.Prelude.{Option, None, Some, Result, Ok, Err, IfOk, codes, drop, take, ◌+◌}
 use Rattle.std.specs.declared.alloc.AllocError.{AllocError}
 use Rattle.carol_accept.specs.Refusals.{IsKeptAs}
@@ -7,11 +7,14 @@ use Rattle.carol_audit.specs.declared.error.TailError.{TailError}
 use Rattle.carol_audit.specs.declared.error.TailError.TheVariants as tail_error
 use Rattle.carol_audit.specs.declared.finding.Finding.{Finding}
 use Rattle.carol_audit.specs.declared.finding.Finding.TheVariants.{Genuine, FalseEvent, FalseLine}
-use Rattle.carol_audit.specs.Findings.{Finds, IsExact}
+use Rattle.carol_audit.specs.Findings.{Finds, IsExact, IsReportOf}
 use Rattle.carol_audit.specs.Laws.{FindingsAreSingle}
 use Rattle.carol_audit.specs.TailLaws.{FaultsAreSingle, ReadHasNoFault}
 use Rattle.carol_audit.specs.Tails.{HasEvents, IsFault}
+use Rattle.std.proofs.lemmas.List.{take-append-drop}
 use Rattle.carol_event.specs.declared.event.Event.{Event}
+use Rattle.carol_history.specs.declared.history.TheConstants.{MOST_EVENTS}
+use Rattle.carol_history.specs.Runs.{Run}
 use Rattle.carol_prepare.specs.Parts.{HasParts, with_tail}
 use Rattle.carol_prepare.specs.Verdicts.{IsToldRefused, VerdictSays}
 use Rattle.carol_prepare.proofs.Refusals.{IsOfAccepted}
@@ -21,13 +24,14 @@ use Rattle.carol_program.specs.declared.program.Program.{Program}
 use Rattle.carol_program.specs.declared.scenes.Scene.{Scene}
 use Rattle.carol_program.specs.Rules.{Rules, rules_in}
 use Rattle.carol_program.specs.Scenes.{IsValidScene}
-use Rattle.carol_reading.specs.Kept.{Kept}
+use Rattle.carol_reading.specs.Kept.{Kept, MayBeKept}
 use Rattle.carol_reply.specs.declared.halt.Halt.{Halt}
 use Rattle.carol_reply.specs.declared.reply.Reply.{Reply}
 use Rattle.carol_reply.specs.Meaning.{IsOwn}
 use Rattle.carol_reply.specs.Reply.{Ends, HaltSays, HaltTells, answer_of}
 use Rattle.carol_reply.specs.Texts.{Answer}
 use Rattle.carol_reply.proofs.Agreeing.{Agrees, AreOwn, IsSettled, agree_same, halt_map, halt_told}
+use Rattle.carol_simulation.specs.Upheld.{MayRun, RunsUphold, Upheld}
 use Rattle.carol_words.specs.Audit.{AuditSays, IsAudited, IsOfTail, IsToldTail, OffsetSays, TailSays, audit_meaning, feeds_in, finding_answer, line_at, tail_answer}
 use Rattle.carol_words.proofs.Opened.{ends_more}
 use Rattle.carol_words.proofs.Stepped.{same_rules}
@@ -104,11 +108,23 @@ audits outcome laws = record {
 
 -- ---- what is told
 
-pub told_found : (tail : List ℕ) (kept : Kept) (scene : Scene) (finding : Finding) (r : Result Reply AllocError) → Finds (rules_in kept.program) scene tail finding
+-- up to each event a history that the program can make upholds what it does
+pub upheld_at : RunsUphold → (p : Rules) (scene : Scene) (past : List Event) → MayRun p scene → Run p scene past → length past ≤ MOST_EVENTS
+    → (later : ℕ) → Upheld p scene (drop later past)
+upheld_at law p scene past may run few later =
+    let whole : take later past ++ drop later past ≡ past = take-append-drop later past in
+    law p scene (take later past) (drop later past) may (rw whole run) (rw whole few)
+
+kept_runs : (kept : Kept) (scene : Scene) → MayBeKept kept.program kept.accords → IsValidScene (rules_in kept.program) scene → MayRun (rules_in kept.program) scene
+kept_runs kept scene may valid = record { rules = may.well_formed.rules; accepted = may.accepted; valid = valid }
+
+pub told_found : RunsUphold → (tail : List ℕ) (kept : Kept) (scene : Scene) (finding : Finding) (r : Result Reply AllocError) → MayBeKept kept.program kept.accords
+    → IsValidScene (rules_in kept.program) scene → Finds (rules_in kept.program) scene tail finding
     → IsExact (rules_in kept.program) scene tail finding → IfOk r (λ reply. answer_of reply ≡ finding_answer finding)
     → IfOk r (λ reply. IsAudited tail kept scene (answer_of reply))
-told_found tail kept scene finding (Ok reply) finds exact h = record { finding = finding; finds = finds; exact = exact; told = h }
-told_found tail kept scene finding (Err e) finds exact h = tt
+told_found law tail kept scene finding (Ok reply) may valid finds exact h =
+    record { finding = finding; finds = finds; exact = exact; upheld = λ past report. upheld_at law (rules_in kept.program) scene past (kept_runs kept scene may valid) report.run report.few; told = h }
+told_found law tail kept scene finding (Err e) may valid finds exact h = tt
 
 pub told_tail : (tail : List ℕ) (first : ℕ) (error : TailError) (halt : Halt) → IsFault tail first error → HaltTells (tail_answer error) halt → HaltSays (IsToldTail tail first) halt
 told_tail tail first error halt fault =

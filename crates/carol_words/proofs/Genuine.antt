@@ -25,12 +25,12 @@ use Rattle.carol_reply.specs.declared.status.Status.{Status}
 use Rattle.carol_reply.specs.declared.status.Status.TheVariants as status
 use Rattle.carol_reply.specs.Meaning.{Agree, FixesStatus}
 use Rattle.carol_reply.specs.Texts.{Answer, line_answer}
-use Rattle.carol_simulation.specs.Upheld.{MayRun}
+use Rattle.carol_simulation.specs.Upheld.{MayRun, RunsUphold}
 use Rattle.carol_syntax.specs.declared.scenes.SceneDecl.{SceneDecl}
 use Rattle.carol_syntax.specs.Files.{ProgramTree}
 use Rattle.carol_words.specs.Audit.{IsAudited, IsToldTail, TailSays, finding_answer, tail_answer}
 use Rattle.carol_words.specs.AuditLaws.{FoundAreReports, IsReported, ReportsAreFound}
-use Rattle.carol_words.proofs.Audited.{TailLaws, tails_agree}
+use Rattle.carol_words.proofs.Audited.{TailLaws, tails_agree, upheld_at}
 
 -- ---- reports are genuine
 
@@ -44,9 +44,9 @@ may_run tree written kept scene ready =
     })
 
 -- such a tail may be told to be genuine
-told_genuine : ReportsAreRead → ReportsAreSingle → (tail : List ℕ) (first : ℕ) (tree : ProgramTree) (written : SceneDecl) (past : List Event)
+told_genuine : RunsUphold → ReportsAreRead → ReportsAreSingle → (tail : List ℕ) (first : ℕ) (tree : ProgramTree) (written : SceneDecl) (past : List Event)
     → IsReported tail tree written past → PlacedSay (TailSays tail first) tree written (finding_answer (Genuine (length past)))
-told_genuine read single tail first tree written past h =
+told_genuine law read single tail first tree written past h =
     let p : Rules = rules_in h.kept.program in
     let may : MayRun p h.scene = may_run tree written h.kept h.scene h.ready in
     inr (record {
@@ -65,6 +65,7 @@ told_genuine read single tail first tree written past h =
               finding = Genuine (length past);
               finds = (past, h.report, refl);
               exact = λ other report. ap (λ (t : List Event). Genuine (length t)) (single p h.scene tail past other may h.report report);
+              upheld = λ other report later. upheld_at law p h.scene other may report.run report.few later;
               told = refl;
             };
           });
@@ -79,11 +80,11 @@ fixed said h = tt
 same_answer : (one other : Answer) → one.0 ≡ other.0 → one.1 ≡ other.1 → one ≡ other
 same_answer (one, text) (other, said) e f = ap (λ s. (s, text)) e ∙ ap (λ t. (other, t)) f
 
-pub reports_are_found : TailLaws → ReportsAreRead → ReportsAreSingle → ReportsAreFound
-reports_are_found laws read single tail first tree written past answer h says decided =
+pub reports_are_found : RunsUphold → TailLaws → ReportsAreRead → ReportsAreSingle → ReportsAreFound
+reports_are_found law laws read single tail first tree written past answer h says decided =
     let agree : Agree (Unit {0}) answer (finding_answer (Genuine (length past))) =
     placed_agree (Unit {0}) (TailSays tail first) (λ one two alike scene valid. tails_agree laws tail first one two alike scene) tree written
-    answer (finding_answer (Genuine (length past))) says (told_genuine read single tail first tree written past h) in
+    answer (finding_answer (Genuine (length past))) says (told_genuine law read single tail first tree written past h) in
     let state = agree.status (fixed answer.0 decided) tt in
     same_answer answer (finding_answer (Genuine (length past))) state (agree.text tt state)
 

@@ -7,3 +7,4 @@ pub mod Turned
 pub mod Summed
 pub mod Audited
 pub mod Genuine
+pub mod Reported

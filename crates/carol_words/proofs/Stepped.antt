@@ -7,7 +7,7 @@ use Rattle.carol_history.specs.declared.script.BadStatement.{BadStatement}
 use Rattle.carol_history.specs.declared.script.Statement.{Statement}
 use Rattle.carol_history.specs.Laws.{ScriptIsSingle}
 use Rattle.carol_history.specs.Scripts.{ComesTo, Scripted}
-use Rattle.carol_house.specs.House.{House, rules_of}
+use Rattle.carol_house.specs.House.{House, IsHistory, UpholdsAll, rules_of}
 use Rattle.carol_prepare.specs.Parts.{with_script}
 use Rattle.carol_prepare.proofs.Refusals.{IsOfAccepted}
 use Rattle.carol_prepare.proofs.Settled.{AreAlike, OneOutcome, parts_agree, parts_own, verdict_agree, verdict_own}
@@ -67,13 +67,21 @@ steps outcome once = record {
 
 -- what the house tells in which the statements were carried out
 pub told_played : (statements : List Statement) (old new : House) (bad : Option BadStatement) (answer : Answer) → old.history ≡ [] → Plays old statements new bad
-    → answer ≡ script_answer (rules_of new) new.scene (record { history = new.history; bad = bad }) → IsPlayed statements old.kept old.scene answer
-told_played statements old new bad answer empty h told = record {
-  script = script;
-  comes = subst (λ (past : List Event). ComesTo (rules_of old) old.scene 1 statements past script) empty h.script;
-  told = told ∙ (ap (λ (k : Kept). script_answer (rules_in k.program) new.scene script) h.over.kept
-      ∙ ap (λ (s : Scene). script_answer (rules_of old) s script) h.over.scene);
-}
+    → IsHistory new → UpholdsAll new → answer ≡ script_answer (rules_of new) new.scene (record { history = new.history; bad = bad }) → IsPlayed statements old.kept old.scene answer
+told_played statements old new bad answer empty h is upheld told =
+    subst (λ (k : Kept). IsPlayed statements k old.scene answer) h.over.kept (subst (λ (s : Scene). IsPlayed statements new.kept s answer) h.over.scene (record {
+      script = script;
+      comes = comes;
+      run = is.run;
+      few = is.few;
+      upheld = upheld;
+      told = told;
+    }))
   where
     script : Scripted
     script = record { history = new.history; bad = bad }
+
+    comes : ComesTo (rules_of new) new.scene 1 statements [] script
+    comes = subst (λ (k : Kept). ComesTo (rules_in k.program) new.scene 1 statements [] script) (sym h.over.kept)
+        (subst (λ (s : Scene). ComesTo (rules_of old) s 1 statements [] script) (sym h.over.scene)
+        (subst (λ (past : List Event). ComesTo (rules_of old) old.scene 1 statements past script) empty h.script))

@@ -4,7 +4,7 @@ use Rattle.carol_audit.specs.declared.error.TailError.{TailError}
 use Rattle.carol_audit.specs.declared.error.TailError.TheVariants as tail_error
 use Rattle.carol_audit.specs.declared.finding.Finding.{Finding}
 use Rattle.carol_audit.specs.declared.finding.Finding.TheVariants.{Genuine, FalseEvent, FalseLine}
-use Rattle.carol_audit.specs.Findings.{Finds, IsExact}
+use Rattle.carol_audit.specs.Findings.{Finds, IsExact, IsReportOf}
 use Rattle.carol_audit.specs.Tails.{HasEvents, IsFault}
 use Rattle.carol_event.specs.declared.event.Event.{Event}
 use Rattle.carol_prepare.specs.Parts.{PartsSay, with_tail}
@@ -17,6 +17,7 @@ use Rattle.carol_reply.specs.declared.line.Line.TheVariants as line
 use Rattle.carol_reply.specs.declared.status.Status.TheVariants as status
 use Rattle.carol_reply.specs.Meaning.{Meaning}
 use Rattle.carol_reply.specs.Texts.{Answer, line_answer, line_feed}
+use Rattle.carol_simulation.specs.Upheld.{Upheld}
 
 -- how many line feeds the bytes have
 abbrev pub feeds_in : List ℕ → ℕ
@@ -47,6 +48,9 @@ pub record IsAudited
   pub finding : Finding
   pub finds : Finds (rules_in kept.program) scene tail finding
   pub exact : IsExact (rules_in kept.program) scene tail finding
+  -- up to each event such a history upholds what an accepted program does
+  pub upheld : (past : List Event) → IsReportOf (rules_in kept.program) scene tail past
+      → (later : ℕ) → Upheld (rules_in kept.program) scene (drop later past)
   pub told : answer ≡ finding_answer finding
 
 -- what is wrong with the lines of events of the tail, which begins with this line, is told

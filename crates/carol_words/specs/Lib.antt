@@ -5,3 +5,4 @@ pub mod Run
 pub mod Gen
 pub mod Audit
 pub mod AuditLaws
+pub mod Reports

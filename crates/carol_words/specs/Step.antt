@@ -1,6 +1,8 @@
 -- What `step` means.
-use Rattle.std.specs.Prelude.{◌≡◌, List, ℕ, [], Some, None, codes}
+use Rattle.std.specs.Prelude.{◌≡◌, ◌≤◌, List, ℕ, [], Some, None, codes, drop, length}
+use Rattle.carol_history.specs.declared.history.TheConstants.{MOST_EVENTS}
 use Rattle.carol_history.specs.declared.script.Statement.{Statement}
+use Rattle.carol_history.specs.Runs.{Run}
 use Rattle.carol_history.specs.Scripts.{ComesTo, Scripted}
 use Rattle.carol_prepare.specs.Parts.{PartsSay, with_script}
 use Rattle.carol_prepare.specs.Verdicts.{VerdictSays}
@@ -13,6 +15,7 @@ use Rattle.carol_reply.specs.declared.status.Status.TheVariants as status
 use Rattle.carol_reply.specs.Meaning.{Meaning}
 use Rattle.carol_reply.specs.Texts.{Answer, line_answer}
 use Rattle.carol_report.specs.Report.{report_text}
+use Rattle.carol_simulation.specs.Upheld.{Upheld}
 
 -- where a script came to this: the report of its history, or its first statement that gives no event
 abbrev pub script_answer : Rules → Scene → Scripted → Answer
@@ -26,6 +29,11 @@ pub record IsPlayed
     (statements : List Statement) (kept : Kept) (scene : Scene) (answer : Answer) : Type 0 where
   pub script : Scripted
   pub comes : ComesTo (rules_in kept.program) scene 1 statements [] script
+  -- each event may come behind those before it
+  pub run : Run (rules_in kept.program) scene script.history
+  pub few : length script.history ≤ MOST_EVENTS
+  -- up to each event it upholds what an accepted program does
+  pub upheld : (later : ℕ) → Upheld (rules_in kept.program) scene (drop later script.history)
   pub told : answer ≡ script_answer (rules_in kept.program) scene script
 
 -- the answer to a program in a scene with these statements

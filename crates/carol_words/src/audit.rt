@@ -16,6 +16,7 @@ use carol_prepare::{Placed, accepted, take_transcript};
 use carol_program::Scene;
 use carol_reading::Accepted;
 use carol_reply::{Halt, Line, Reply, Status, ended, tell_line};
+use carol_simulation::simulation;
 use std::alloc::{AllocError, Global};
 use std::thread::Threads;
 
@@ -118,6 +119,9 @@ fn find(
     requires small { length tail.now + 1 < 4_294_967_295 }
     ensures { IfOk result (λ reply. IsAudited tail.now accepted scene (answer_of reply)) }
 {
+    simulation();
+    // The program is known to be accepted.
+    let _program = accepted.program();
     let finding = judge(alloc, accepted, scene, events, tail)?;
     finding_reply(alloc, finding)
 }

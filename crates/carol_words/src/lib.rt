@@ -15,6 +15,6 @@ mod step;
 pub use audit::audit_bytes;
 pub use check::check_bytes;
 pub use generated::sum_up;
-pub use laws::audit_laws;
+pub use laws::{audit_laws, report_laws};
 pub use run::run_bytes;
 pub use step::step_bytes;

@@ -60,7 +60,9 @@ fn play(alloc: Global, house: &mut House, script: &StatementList) -> Result<Repl
     ensures { IfOk result (λ reply. IsPlayed script.now
         house.old.kept house.old.scene (answer_of reply)) }
 {
-    match run_script(house, script)? {
+    let bad = run_script(house, script)?;
+    let _upheld = house.history();
+    match bad {
         None => Ok(Reply {
             status: Status::Ok,
             text: report(alloc, house)?,
