@@ -1,31 +1,28 @@
 -- No refusal is a right answer to `gen`.
-use Rattle.std.proofs.Common.{◌≡◌, ℕ, ◌≤◌, ◌⊎◌, inl, inr, List, [], ◌∷◌, ◌++◌, refl, sym, ◌∙◌, ap, subst}
-use Rattle.std.specs.Prelude.{Some, None}
+use Rattle.std.proofs.Common.{◌≡◌, ℕ, inl, inr, List, [], ◌∷◌, ◌++◌, refl, ◌∙◌, ap, subst}
+use Rattle.std.specs.Prelude.{Some}
 use Rattle.carol_formula.specs.Numbers.{number_at}
 use Rattle.carol_program.specs.declared.program.Program.{Program}
 use Rattle.carol_program.specs.declared.scenes.Scene.{Scene}
 use Rattle.carol_program.specs.Rules.{Rules, rules_in}
 use Rattle.carol_grammar.specs.Outcome.{Outcome, Read, Means}
-use Rattle.carol_typecheck.specs.Readings.{IsVerdictFor}
-use Rattle.carol_typecheck.specs.declared.verdict.Verdict.{Verdict}
 use Rattle.carol_typecheck.specs.declared.verdict.Verdict.TheVariants as verdict
 use Rattle.carol_accept.specs.Refusals.{IsRefusedFor}
 use Rattle.carol_accept.specs.declared.refused.Refused.{Refused}
 use Rattle.carol_accept.specs.declared.refused.Refused.TheVariants.{InitialFails, NotReflexive, Fails, Undecided, NoMemory}
 use Rattle.carol_meaning.specs.declared.fault.Fault.{Fault}
 use Rattle.carol_meaning.specs.Faults.{IsFirst}
-use Rattle.carol_meaning.specs.Programs.{program_faults, rules_of, names_of}
+use Rattle.carol_meaning.specs.Programs.{rules_of}
 use Rattle.carol_scenario.specs.Faults.{scene_faults, first_of}
-use Rattle.carol_syntax.specs.declared.scenes.SceneDecl.{SceneDecl}
 use Rattle.carol_syntax.specs.Files.{FileTree}
 use Rattle.carol_prepare.specs.Bytes.{OutcomeSays}
-use Rattle.carol_prepare.specs.Named.{IsToldName, IsProgramOf, IsOfProgram, NamesSay}
-use Rattle.carol_prepare.specs.Parts.{TakesSay, scene_alone, scene_part}
-use Rattle.carol_prepare.specs.Scenes.{IsToldScene, IsOfScene, SceneSays, PlacedSay}
-use Rattle.carol_prepare.specs.Verdicts.{IsToldRefused, IsOfAccepted, verdict_answer}
+use Rattle.carol_prepare.specs.Named.{IsProgramOf}
+use Rattle.carol_prepare.specs.Parts.{TakesSay, scene_alone}
+use Rattle.carol_prepare.specs.Scenes.{SceneSays, PlacedSay}
+use Rattle.carol_prepare.specs.Verdicts.{verdict_answer}
 use Rattle.carol_reply.specs.declared.status.Status.TheVariants.{Ok}
 use Rattle.carol_reply.specs.Texts.{Answer}
-use Rattle.carol_words.specs.Gen.{IsSummed, SceneSums, gen_words}
+use Rattle.carol_words.specs.Gen.{SceneSums, gen_words}
 use Rattle.carol_generator.specs.Generated.{bank, generated_text}
 use Rattle.carol_generator.specs.Laws.{GeneratedIsRead, GeneratedIsFaultless, IsFaultless}
 use Rattle.carol_bank.specs.Law.{BankIsAccepted}
