@@ -11,7 +11,7 @@ use carol_disk::{Disk, Failed, MemoryDisk};
 #[derive(Drop)]
 pub struct FileDisk<F: DiskFile> {
     file: F,
-    record: MemoryDisk,
+    notes: MemoryDisk,
     faults: u64,
 }
 
@@ -27,7 +27,7 @@ impl<F: DiskFile> FileDisk<F> {
     {
         FileDisk {
             file,
-            record: MemoryDisk::new(bytes, None),
+            notes: MemoryDisk::new(bytes, None),
             faults: 0,
         }
     }
@@ -40,7 +40,7 @@ impl<F: DiskFile> FileDisk<F> {
     // Counts a call that failed.
     fn fail(&mut self) -> Result<(), Failed>
         ensures failed { IsErr result }
-        ensures record { self.new.record ≡ self.old.record }
+        ensures notes { self.new.notes ≡ self.old.notes }
         ensures counted { self.new.faults ≡ one_more self.old.faults }
         ensures risen { self.old.faults ≤ self.new.faults }
     {
@@ -52,28 +52,28 @@ impl<F: DiskFile> FileDisk<F> {
 impl<F: DiskFile> Disk for FileDisk<F> {
     ghost use Rattle.carol_disk.specs.Laws.{counts_now, only_now, seen_may_stay};
 
-    ghost seen = { λ d. seen_after d.record.first d.record.past };
+    ghost seen = { λ d. seen_after d.notes.first d.notes.past };
 
-    ghost kept = { λ d. kept_after d.record.first d.record.past };
+    ghost kept = { λ d. kept_after d.notes.first d.notes.past };
 
-    ghost may_leave = { λ d c. MayLeave d.record.first d.record.past c };
+    ghost may_leave = { λ d c. MayLeave d.notes.first d.notes.past c };
 
-    ghost moment = { λ d. length d.record.past };
+    ghost moment = { λ d. length d.notes.past };
 
-    ghost left_since = { λ d t c. LeftSince d.record.first t d.record.past c };
+    ghost left_since = { λ d t c. LeftSince d.notes.first t d.notes.past c };
 
     ghost faults = { λ d. d.faults };
 
-    ghost limit = { λ d. d.record.stop };
+    ghost limit = { λ d. d.notes.stop };
 
-    ghost seen_may_stay = { λ d. seen_may_stay d.record.first d.record.past };
+    ghost seen_may_stay = { λ d. seen_may_stay d.notes.first d.notes.past };
 
-    ghost counts_now = { λ d t c le now. counts_now d.record.first d.record.past t c le now };
+    ghost counts_now = { λ d t c le now. counts_now d.notes.first d.notes.past t c le now };
 
-    ghost only_now = { λ d c left. only_now d.record.first d.record.past c left };
+    ghost only_now = { λ d c left. only_now d.notes.first d.notes.past c left };
 
     fn read(&mut self, at: u64, into: &mut [u8]) -> Result<usize, Failed> {
-        match self.record.read(at, into) {
+        match self.notes.read(at, into) {
             Ok(count) => Ok(count),
             Err(Failed) => {
                 self.faults = self.faults.saturating_add(1);
@@ -86,7 +86,7 @@ impl<F: DiskFile> Disk for FileDisk<F> {
         if self.file.put(at, bytes).is_err() {
             return self.fail();
         }
-        match self.record.write_at(at, bytes) {
+        match self.notes.write_at(at, bytes) {
             Ok(()) => Ok(()),
             Err(Failed) => self.fail(),
         }
@@ -96,7 +96,7 @@ impl<F: DiskFile> Disk for FileDisk<F> {
         if self.file.shorten(end).is_err() {
             return self.fail();
         }
-        match self.record.cut(end) {
+        match self.notes.cut(end) {
             Ok(()) => Ok(()),
             Err(Failed) => self.fail(),
         }
@@ -106,7 +106,7 @@ impl<F: DiskFile> Disk for FileDisk<F> {
         if self.file.flush_all().is_err() {
             return self.fail();
         }
-        match self.record.sync() {
+        match self.notes.sync() {
             Ok(()) => Ok(()),
             Err(Failed) => self.fail(),
         }
