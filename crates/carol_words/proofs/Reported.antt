@@ -60,16 +60,19 @@ script_text p scene past (Some bad) answer told reports = absurd (subst (λ (a :
 
 played_genuine : (statements : List Statement) (tree : ProgramTree) (written : SceneDecl) (answer : Answer) (kept : Kept) (scene : Scene) → IsReady tree written kept scene
     → Reports answer.0 → IsPlayed statements kept scene answer → IsGenuine tree written answer.1
-played_genuine statements tree written answer kept scene ready reports h tail text = (h.script.history, record {
-  kept = kept;
-  scene = scene;
-  ready = ready;
-  report = record {
-    run = h.run;
-    few = h.few;
-    text = sym text ∙ script_text (rules_in kept.program) scene h.script.history h.script.bad answer h.told reports;
-  };
-})
+played_genuine statements tree written answer kept scene ready reports h tail text = (
+  h.script.history,
+  record {
+    kept = kept;
+    scene = scene;
+    ready = ready;
+    report = record {
+      run = h.run;
+      few = h.few;
+      text = sym text ∙ script_text (rules_in kept.program) scene h.script.history h.script.bad answer h.told reports;
+    };
+  },
+)
 
 pub steps_are_genuine : StepsAreGenuine
 steps_are_genuine statements tree written answer says reports =
@@ -78,12 +81,15 @@ steps_are_genuine statements tree written answer says reports =
 
 ran_genuine : (tree : ProgramTree) (written : SceneDecl) (answer : Answer) (kept : Kept) (scene : Scene) → IsReady tree written kept scene
     → IsToldRun kept scene answer → IsGenuine tree written answer.1
-ran_genuine tree written answer kept scene ready h tail text = (h.past, record {
-  kept = kept;
-  scene = scene;
-  ready = ready;
-  report = record { run = h.run; few = h.few; text = sym text ∙ h.told };
-})
+ran_genuine tree written answer kept scene ready h tail text = (
+  h.past,
+  record {
+    kept = kept;
+    scene = scene;
+    ready = ready;
+    report = record { run = h.run; few = h.few; text = sym text ∙ h.told };
+  },
+)
 
 pub runs_are_genuine : RunsAreGenuine
 runs_are_genuine tree written answer says reports =
