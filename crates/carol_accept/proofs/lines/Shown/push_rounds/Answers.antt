@@ -1,4 +1,4 @@
-use Rattle.std.proofs.Common.{◌++◌, ◌+◌, ◌*◌, arith}
+use Rattle.std.proofs.Common.{◌++◌, ◌+◌, arith}
 use Rattle.carol_accept.specs.Lines.{rounds_text}
 use Rattle.carol_accept.specs.Named.{variable_text}
 use Rattle.carol_accept.proofs.Texts.{rounds_more}
