@@ -1,5 +1,5 @@
 -- Which ways there are.
-use Rattle.std.proofs.Common.{◌≡◌, ℕ, ◌<◌, ◌≤◌, zero, suc, Bool, true, false, ◌&&◌, List, [], ◌∷◌, length, refl, arith}
+use Rattle.std.proofs.Common.{◌≡◌, ℕ, ◌<◌, ◌≤◌, zero, suc, Bool, true, false, ◌&&◌, List, [], ◌∷◌, length, ℤ, Option, Some, None, refl, arith}
 use Rattle.std.specs.Prelude.{slice_get}
 use Rattle.std.proofs.lemmas.Bool.{false≢true}
 use Rattle.std.proofs.lemmas.Option.{slice_get_past}
@@ -8,6 +8,7 @@ use Rattle.carol_store.specs.declared.short_list.TheConstants.{MOST_CELLS}
 use Rattle.carol_store.specs.declared.direction.Direction.{Direction}
 use Rattle.carol_store.specs.declared.effect.Atom.{Atom}
 use Rattle.carol_store.specs.Directions.{directions}
+use Rattle.carol_store.specs.Kinds.{can_go}
 use Rattle.carol_program.specs.Accords.{Accords, AreWays, HasWay}
 use Rattle.carol_program.proofs.Directions.{directions_are_ways}
 use Rattle.carol_grant.specs.Counts.{count_rows}

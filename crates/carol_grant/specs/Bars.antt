@@ -1,5 +1,5 @@
 -- How a bar is looked for, row by row.
-use Rattle.std.specs.Prelude.{◌≡◌, ℕ, ◌<◌, Bool, true, false, not, ◌&&◌, List, Option, Some, None, get_or}
+use Rattle.std.specs.Prelude.{◌≡◌, ℕ, ◌<◌, Bool, true, false, not, ◌&&◌, List, [], ◌∷◌, Option, Some, None, get_or}
 use Rattle.carol_store.specs.declared.effect.Atom.{Atom}
 use Rattle.carol_program.specs.Accords.{Accords}
 use Rattle.carol_program.specs.Admitting.{admits}
