@@ -31,7 +31,7 @@ ends_in_tail bytes list list' lexeme at next rest rest' found stop so_far first 
     rw (longer, made, stops, over, dropped) (so_far (lexeme_at at found ∷ []) _ _ (last_of_tail at rest found first tail))
 
 -- where cutting stops no token begins
-stops_none : (at : Place) (rest : List ℕ) (stop : Stop) → Stops (at, rest) stop → first_token rest ≡ None
+pub stops_none : (at : Place) (rest : List ℕ) (stop : Stop) → Stops (at, rest) stop → first_token rest ≡ None
 unfolding first_token
 stops_none at [] stop h = refl
 stops_none at (b ∷ rest) stop h = h.0
