@@ -1,6 +1,6 @@
 -- One token of what is left of a text, and which tokens that is.
 use Rattle.std.proofs.Common.{◌≡◌, ℕ, zero, suc, Bool, true, false, cond, List, [], ◌∷◌, take, drop, refl, sym, ap, ◌∙◌}
-use Rattle.std.specs.Prelude.{Some, None, Option}
+use Rattle.std.specs.Prelude.{Some, None}
 use Rattle.std.specs.Bool.{MatchBool}
 use Rattle.carol_syntax.specs.declared.found.Found.{Found}
 use Rattle.carol_syntax.specs.declared.lexeme.Lexeme.{Lexeme}

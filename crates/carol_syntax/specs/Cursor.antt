@@ -5,9 +5,9 @@ use Rattle.carol_syntax.specs.declared.lexeme.Lexeme.{Lexeme}
 use Rattle.carol_syntax.specs.declared.lexeme.Stop.{Stop}
 use Rattle.carol_syntax.specs.declared.place.Place.{Place}
 use Rattle.carol_syntax.specs.declared.cursor.Here.{Here}
-use Rattle.carol_syntax.specs.Place.{start, past_space, place_over, IsCounted}
+use Rattle.carol_syntax.specs.Place.{past_space, place_over, IsCounted}
 use Rattle.carol_syntax.specs.First.{first_token}
-use Rattle.carol_syntax.specs.Cut.{CutFrom, Cut, StopsBehind, is_transcript, lexeme_at}
+use Rattle.carol_syntax.specs.Cut.{CutFrom, StopsBehind, is_transcript, lexeme_at}
 
 -- the token, and the others behind it, or none
 abbrev pub onto : Place → Option Found → (Found → List Lexeme) → List Lexeme

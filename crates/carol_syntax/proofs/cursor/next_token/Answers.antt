@@ -1,8 +1,8 @@
-use Rattle.std.proofs.Common.{◌≡◌, cond, [], suc, arith, ap, sym, ◌∙◌}
+use Rattle.std.proofs.Common.{cond, [], suc, arith, ap, sym, ◌∙◌}
 use Rattle.carol_syntax.specs.declared.lexeme.Lexeme.{Lexeme}
 use Rattle.carol_syntax.specs.declared.place.Place.{Place}
 use Rattle.carol_syntax.specs.Cursor.{cut_up_to}
-use Rattle.carol_syntax.proofs.Stepping.{met, unmet, cut_tail, some_tail, cut_plain, some_plain, some_none}
+use Rattle.carol_syntax.proofs.Stepping.{unmet, cut_tail, some_tail, cut_plain, some_plain, some_none}
 use Rattle.carol_syntax.proofs.cursor.next_token.Goals as goal
 
 pub returns-in_default : goal.returns-in_default

@@ -1,5 +1,4 @@
-use Rattle.std.proofs.Common.{◌≡◌, zero, Bool, true, false, cond, [], List, refl, sym, ap, ◌∙◌}
-use Rattle.carol_syntax.specs.declared.lexeme.Lexeme.{Lexeme}
+use Rattle.std.proofs.Common.{sym, ap, ◌∙◌}
 use Rattle.carol_syntax.specs.Cursor.{some_here}
 use Rattle.carol_syntax.proofs.Stepping.{none_here}
 use Rattle.carol_syntax.proofs.lookahead.some_of.Goals as goal
