@@ -13,7 +13,7 @@ use crate::place::{Place, behind_space, over};
 
 /// What is left of a text that is cut one token at a time: the place where the next token begins
 /// or, with `tail`, the place behind the word `transcript`, and the bytes from there on.
-#[derive(Clone, Copy, Debug)]
+#[derive(Clone, Copy)]
 pub struct Here<'a> {
     pub at: Place,
     pub rest: &'a [u8],

@@ -18,7 +18,6 @@ mod found;
 mod kind;
 mod lexeme;
 mod limits;
-mod lookahead;
 mod operations;
 mod place;
 mod places;
@@ -28,7 +27,6 @@ mod words;
 
 pub use bodies::{AtomDecl, AtomDeclList, Body, Change, Last, PathDecl, Statement, StatementList};
 pub use cells::{CellDecl, CellDeclList, FieldDecl, FieldDeclList, FieldKind};
-pub use cursor::{Here, from_start, next_token, stop_at};
 pub use files::{File, GuardDecl, GuardDeclList, ProgramDecl};
 pub use formulas::{
     FormulaDecl, ProductDecl, ProductDeclList, Sign, TermDecl, ValueDecl, ValueKind,
@@ -39,7 +37,6 @@ pub use limits::{
     LARGEST, LONGEST_NAME, MOST_BODY_DEPTH, MOST_FORMULA_NODES, MOST_PROGRAM_BYTES,
     MOST_SCRIPT_LINES, MOST_TEXT_BYTES,
 };
-pub use lookahead::Tokens;
 pub use operations::{OpDecl, OpDeclList, ParamDecl, ParamDeclList};
 pub use place::Place;
 pub use places::{Ident, IdentList, Num, Span};

@@ -1,17 +1,11 @@
-use Rattle.std.proofs.Common.{cond, [], suc, arith, ap, sym, ◌∙◌}
+use Rattle.std.proofs.Common.{arith, ap, sym}
 use Rattle.carol_syntax.specs.declared.lexeme.Lexeme.{Lexeme}
 use Rattle.carol_syntax.specs.declared.place.Place.{Place}
-use Rattle.carol_syntax.specs.Cursor.{cut_up_to}
-use Rattle.carol_syntax.proofs.Stepping.{unmet, cut_tail, some_tail, cut_plain, some_plain, some_none}
+use Rattle.carol_syntax.proofs.Stepping.{unmet, cut_tail, cut_plain}
 use Rattle.carol_syntax.proofs.cursor.next_token.Goals as goal
 
 pub returns-in_default : goal.returns-in_default
-returns-in_default c =
-    let none = sym c.in_default.ensures.token in
-    record {
-      some = λ n. ap (λ b. cond b [] (cut_up_to n (c.args.here.now.at, c.args.here.now.rest.now))) c.if-here.false ∙ some_none c.args.here.now.at c.args.here.now.rest.now none n;
-      none = unmet c.args.here.now.tail _ _ c.if-here.false none;
-    }
+returns-in_default c = unmet c.args.here.now.tail _ _ c.if-here.false (sym c.in_default.ensures.token)
 
 pub returns-then-begins_tail : goal.returns-then-begins_tail
 returns-then-begins_tail c =
@@ -25,7 +19,6 @@ returns-then-begins_tail c =
     let past = ap (λ (x : Lexeme). x.to) c.make_lexeme-lexeme.ensures in
     record {
       cut = λ more stop end h. unmet here.tail _ _ c.if-here.false (cut_tail here.at c.over-next.result here.rest.now c.split_at.result.1.now c.in-Some.found c.make_lexeme-lexeme.result first c.make_lexeme-lexeme.ensures c.over-next.ensures c.split_at.ensures.back tail more stop end h);
-      some = λ n. ap (λ b. cond b [] (cut_up_to (suc n) (here.at, here.rest.now))) c.if-here.false ∙ some_tail here.at c.over-next.result here.rest.now c.split_at.result.1.now c.in-Some.found c.make_lexeme-lexeme.result first c.make_lexeme-lexeme.ensures c.over-next.ensures c.split_at.ensures.back tail n;
       sound = record {
         counted = record { line = omega (arith, lines, moved, c.requires.counted.line); column = omega (arith, columns, moved, c.requires.counted.column) };
         room = omega (arith, moved, c.split_at.ensures.back_len, c.in-Some.ensures.within, c.requires.room);
@@ -47,7 +40,6 @@ returns c =
     let past = ap (λ (x : Lexeme). x.to) c.make_lexeme-lexeme.ensures in
     record {
       cut = λ more stop end h. unmet here.tail _ _ c.if-here.false (cut_plain here.at c.over-next.result here.rest.now c.split_at.result.1.now c.in-Some.found c.make_lexeme-lexeme.result first c.make_lexeme-lexeme.ensures c.over-next.ensures c.split_at.ensures.back c.behind_space.result.0 c.behind_space.result.1.now c.behind_space.ensures.past other more stop end h);
-      some = λ n. ap (λ b. cond b [] (cut_up_to (suc n) (here.at, here.rest.now))) c.if-here.false ∙ some_plain here.at c.over-next.result here.rest.now c.split_at.result.1.now c.in-Some.found c.make_lexeme-lexeme.result first c.make_lexeme-lexeme.ensures c.over-next.ensures c.split_at.ensures.back c.behind_space.result.0 c.behind_space.result.1.now c.behind_space.ensures.past other n;
       sound = record {
         counted = c.behind_space.ensures.counted;
         room = omega (arith, moved, c.split_at.ensures.back_len, c.in-Some.ensures.within, c.behind_space.ensures.offset, c.requires.room);
