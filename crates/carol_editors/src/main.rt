@@ -3,7 +3,7 @@
 //! Layer: program. Called by nobody: it is a program of its own.
 #![tactic(auto)]
 
-use carol_syntax::KEYWORDS;
+use carol_syntax::{LONGEST_NAME, keywords};
 use std::fs;
 
 const FILES: [&str; 2] = ["carol.vim", "carol.tmLanguage.json"];
@@ -11,12 +11,14 @@ const FILES: [&str; 2] = ["carol.vim", "carol.tmLanguage.json"];
 fn main(rt: HostRuntime) -> anyhow::Result<()> {
     for name in FILES {
         let text = fs::read_to_string(&rt, name)?;
-        for (word, _kind) in &KEYWORDS {
-            if !stands_in(word, text.as_str()) {
-                println!(rt; "{name} lacks {word}")?;
+        for letters in 0..=LONGEST_NAME {
+            for (word, _kind) in keywords(letters) {
+                if !stands_in(word, text.as_str()) {
+                    println!(rt; "{name} lacks {word}")?;
+                }
             }
         }
-        println!(rt; "{name}: {} keywords", KEYWORDS.len())?;
+        println!(rt; "{name} was looked through")?;
     }
     Ok(())
 }

@@ -1,34 +1,14 @@
--- One more token before what the rest is cut into.
-use Rattle.std.proofs.Common.{◌≡◌, ℕ, ◌+◌, ◌<◌, ◌≤◌, ◌==◌, cond, length, arith, false, true, List, [], ◌∷◌, ◌++◌, drop, refl, sym, subst, append_assoc, ◌∙◌, ap, Bool}
+-- A text is cut in one way.
+use Rattle.std.proofs.Common.{◌≡◌, ℕ, ◌<◌, ◌≤◌, arith, false, true, List, [], ◌∷◌, ◌++◌, drop, refl, sym, subst, ◌∙◌, ap, Bool}
 use Rattle.std.specs.Prelude.{Some, None}
 use Rattle.std.specs.Bool.{MatchBool}
 use Rattle.carol_syntax.specs.declared.found.Found.{Found}
 use Rattle.carol_syntax.specs.declared.lexeme.Lexeme.{Lexeme}
 use Rattle.carol_syntax.specs.declared.lexeme.Stop.{Stop}
-use Rattle.carol_syntax.specs.declared.lexeme.Stop.TheVariants.{End, Tail, Bad}
 use Rattle.carol_syntax.specs.declared.place.Place.{Place}
-use Rattle.carol_syntax.specs.Place.{start, past_space, place_over, span_of}
+use Rattle.carol_syntax.specs.Place.{past_space, place_over}
 use Rattle.carol_syntax.specs.First.{first_token}
-use Rattle.carol_syntax.specs.Cut.{CutFrom, Cut, Stops, StopsBehind, StandBetween, is_transcript, lexeme_at, stop_of_tail}
-
-pub one_more : (at : Place) (rest : List ℕ) (found : Found) (more : List Lexeme) (stop : Stop) (end : Place) → first_token rest ≡ Some found → is_transcript found.kind ≡ false → CutFrom (past_space false (place_over at found.length) (drop found.length rest)) more stop end → CutFrom (at, rest) (lexeme_at at found ∷ more) stop end
-one_more at rest found more stop end first other h =
-    (found, record { first = first; made = refl }, rw other h)
-
-last_of_tail : (at : Place) (rest : List ℕ) (found : Found) → first_token rest ≡ Some found → is_transcript found.kind ≡ true → CutFrom (at, rest) (lexeme_at at found ∷ []) (stop_of_tail (place_over at found.length) (drop found.length rest)) (place_over at found.length)
-last_of_tail at rest found first tail =
-    (found, record { first = first; made = refl }, rw tail (refl, (refl, refl)))
-
--- what was cut so far and one more token
-pub goes_on : (bytes : List ℕ) (list list' : List Lexeme) (lexeme : Lexeme) (at next after : Place) (rest rest' rest'' : List ℕ) (found : Found) → ((more : List Lexeme) (stop : Stop) (end : Place) → CutFrom (at, rest) more stop end → Cut start bytes (list ++ more) stop end) → first_token rest ≡ Some found → is_transcript found.kind ≡ false → lexeme ≡ lexeme_at at found → list' ≡ list ++ lexeme ∷ [] → next ≡ place_over at found.length → rest' ≡ drop found.length rest → (after, rest'') ≡ past_space false next rest' → (more : List Lexeme) (stop : Stop) (end : Place) → CutFrom (after, rest'') more stop end → Cut start bytes (list' ++ more) stop end
-goes_on bytes list list' lexeme at next after rest rest' rest'' found so_far first other made longer over dropped past more stop end h =
-    let h' : CutFrom (past_space false (place_over at found.length) (drop found.length rest)) more stop end = rw (← over, ← dropped, ← past) h in
-    rw (longer, append_assoc, made) (so_far (lexeme_at at found ∷ more) stop end (one_more at rest found more stop end first other h'))
-
--- what was cut so far and the word before a transcript
-pub ends_in_tail : (bytes : List ℕ) (list list' : List Lexeme) (lexeme : Lexeme) (at next : Place) (rest rest' : List ℕ) (found : Found) (stop : Stop) → ((more : List Lexeme) (stop : Stop) (end : Place) → CutFrom (at, rest) more stop end → Cut start bytes (list ++ more) stop end) → first_token rest ≡ Some found → is_transcript found.kind ≡ true → lexeme ≡ lexeme_at at found → list' ≡ list ++ lexeme ∷ [] → next ≡ place_over at found.length → rest' ≡ drop found.length rest → stop ≡ stop_of_tail next rest' → Cut start bytes list' stop next
-ends_in_tail bytes list list' lexeme at next rest rest' found stop so_far first tail made longer over dropped stops =
-    rw (longer, made, stops, over, dropped) (so_far (lexeme_at at found ∷ []) _ _ (last_of_tail at rest found first tail))
+use Rattle.carol_syntax.specs.Cut.{CutFrom, Cut, Stops, StopsBehind, StandBetween, is_transcript, lexeme_at}
 
 -- where cutting stops no token begins
 stops_none : (at : Place) (rest : List ℕ) (stop : Stop) → Stops (at, rest) stop → first_token rest ≡ None
@@ -80,17 +60,3 @@ cut_once at bytes xs ys s t d e h k = cut_from_once (past_space false at bytes) 
 pub stand_more : (from : ℕ) (xs : List Lexeme) (lexeme : Lexeme) (to after : ℕ) → StandBetween from xs to → to ≤ lexeme.from → lexeme.from < lexeme.to → lexeme.to ≤ after → StandBetween from (xs ++ lexeme ∷ []) after
 stand_more from [] lexeme to after h before some behind = (omega arith, some, behind)
 stand_more from (x ∷ xs) lexeme to after h before some behind = (h.0, h.1, stand_more x.to xs lexeme to after h.2 before some behind)
-
--- where cutting stops for want of bytes none are left
-pub none_left : (at : Place) (rest : List ℕ) (stop : Stop) → Stops (at, rest) stop → stop ≡ End → length rest ≡ 0
-none_left at [] stop h e = refl
-none_left at (b ∷ rest) stop h e = absurd (cc (h.1, e))
-
--- behind the word `transcript` cutting doesn't stop for want of bytes
-pub tail_no_end : (at : Place) (rest : List ℕ) → stop_of_tail at rest ≡ End → ⊥
-tail_no_end at [] e = cc e
-tail_no_end at (b ∷ rest) e = of_test (b == 10) e
-  where
-    of_test : (t : Bool) → cond t (Tail (at.offset + 1)) (Bad (span_of at)) ≡ End → ⊥
-    of_test true f = cc f
-    of_test false f = cc f

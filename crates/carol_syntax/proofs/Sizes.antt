@@ -1,12 +1,12 @@
 -- What follows of the size of a tree.
-use Rattle.std.proofs.Common.{ℕ, ◌+◌, ◌≤◌, List, length, arith}
+use Rattle.std.proofs.Common.{◌≤◌, List, length, arith}
 use Rattle.carol_syntax.specs.declared.formulas.TermDecl.{TermDecl}
 use Rattle.carol_syntax.specs.declared.formulas.Sign.{Sign}
 use Rattle.carol_syntax.specs.declared.bodies.Statement.{Statement}
 use Rattle.carol_syntax.specs.Formulas.{FormulaTree, True, False, Not, And, Or, Compare}
 use Rattle.carol_syntax.specs.Bodies.{BodyTree, Return, If}
 use Rattle.carol_syntax.specs.Limits.{most_formula_nodes}
-use Rattle.carol_syntax.specs.Size.{most_items, formula_size, node_count, statement_count, IsSizedTerm, IsSizedFormula, IsSizedBody}
+use Rattle.carol_syntax.specs.Size.{formula_size, node_count, statement_count, IsSizedTerm, IsSizedFormula}
 
 nodes_below_size : (f : FormulaTree) → node_count f ≤ formula_size f
 nodes_below_size True = omega arith

@@ -1,5 +1,5 @@
 -- Which words are keywords.
-use Rattle.std.specs.Prelude.{ℕ, List, [], ◌∷◌, if◌then◌else◌}
+use Rattle.std.specs.Prelude.{ℕ, List, [], ◌∷◌, length, eqb, if◌then◌else◌}
 use Rattle.std.specs.List.{zip}
 use Rattle.std.specs.Borrow.{Bor}
 use Rattle.std.specs.Str.{bytes_eq}
@@ -24,6 +24,11 @@ keyword_kinds = zip keywords (
 
 abbrev pub kind_of_word : List ℕ → Kind
 kind_of_word word = kind_in keyword_kinds word
+
+-- the entries of words of this length
+unfoldable pub of_length : ℕ → List (List ℕ × Kind) → List (List ℕ × Kind)
+of_length n [] = []
+of_length n (entry ∷ entries) = if eqb (length entry.0) n then entry ∷ of_length n entries else of_length n entries
 
 -- what an entry of the code's table says
 abbrev pub entry_of : Bor (List ℕ) × Kind → List ℕ × Kind

@@ -10,4 +10,5 @@ pub mod Keywords
 pub mod Place
 pub mod First
 pub mod Cut
+pub mod Cursor
 pub mod Tokens

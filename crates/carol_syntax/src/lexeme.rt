@@ -1,16 +1,16 @@
-ghost use Rattle.std.specs.Prelude.{◌≡◌, ◌+◌, ◌<◌, ◌≤◌, ◌^◌, ◌-◌, ℕ, length, List, IfOk};
+ghost use Rattle.std.specs.Prelude.{◌≡◌, ◌+◌, ◌<◌, ◌≤◌, ◌^◌, ℕ, length, List, IfOk};
 ghost use Rattle.carol_syntax.specs.Limits.{most_text_bytes};
-ghost use Rattle.carol_syntax.specs.Place.{start, place_over, span_of};
-ghost use Rattle.carol_syntax.specs.Cut.{Cut, Stops, StandBetween, is_transcript, lexeme_at, stop_of_tail};
-ghost use Rattle.carol_syntax.specs.First.{first_token};
+ghost use Rattle.carol_syntax.specs.Place.{start, span_of};
+ghost use Rattle.carol_syntax.specs.Cut.{Cut, StandBetween, lexeme_at};
 ghost use Rattle.carol_syntax.specs.declared.lexeme.Lexeme.{Lexeme};
 ghost use Rattle.carol_syntax.specs.declared.lexeme.Stop.{Stop};
 ghost use Rattle.carol_syntax.specs.declared.place.Place.{Place};
 
 use crate::Span;
-use crate::found::{Found, first};
+use crate::cursor::{from_start, next_token, stop_at};
+use crate::found::Found;
 use crate::kind::Kind;
-use crate::place::{Place, behind_space, over};
+use crate::place::Place;
 use sqlite_items::Items;
 use std::alloc::{AllocError, Global};
 
@@ -46,7 +46,8 @@ pub struct Lexemes {
     pub end: Place,
 }
 
-fn span_at(at: Place) -> Span
+/// The place without its offset.
+pub(crate) fn span_at(at: Place) -> Span
     ensures { result ≡ span_of at }
 {
     Span {
@@ -55,7 +56,8 @@ fn span_at(at: Place) -> Span
     }
 }
 
-fn make_lexeme(at: Place, found: Found) -> Lexeme
+/// The token that was found at a place.
+pub(crate) fn make_lexeme(at: Place, found: Found) -> Lexeme
     requires { at.offset + found.length < 2 ^ 32 }
     ensures { result ≡ lexeme_at at found }
 {
@@ -66,34 +68,6 @@ fn make_lexeme(at: Place, found: Found) -> Lexeme
         from: at.offset,
         to: at.offset + found.length,
     }
-}
-
-// Where cutting stops behind the word `transcript`.
-fn tail_stop(at: Place, rest: &[u8]) -> Stop
-    requires { at.offset + length rest.now < 2 ^ 32 - 1 }
-    ensures { result ≡ stop_of_tail at rest.now }
-{
-    match rest {
-        [b'\n', ..] => Stop::Tail(at.offset + 1),
-        _ => Stop::Bad(span_at(at)),
-    }
-}
-
-// Where cutting stops before what begins no token.
-fn end_stop(at: Place, rest: &[u8]) -> Stop
-    requires { first_token rest.now ≡ None }
-    ensures { Stops (at, rest.now) result }
-{
-    if rest.is_empty() {
-        return Stop::End;
-    }
-    Stop::Bad(span_at(at))
-}
-
-fn begins_tail(kind: Kind) -> bool
-    ensures { result ≡ is_transcript kind }
-{
-    matches!(kind, Kind::Transcript)
 }
 
 /// A text is cut in one way.
@@ -114,30 +88,12 @@ pub fn cut(alloc: Global, bytes: &[u8]) -> Result<Lexemes, AllocError>
     ensures whole { IfOk result (λ all. all.stop ≡ Stop.End → all.end.offset ≡ length bytes.now) }
 {
     let mut list = Items::new(alloc);
-    let start = Place {
-        line: 1,
-        column: 1,
-        offset: 0,
-    };
-    let (mut at, mut rest) = behind_space(start, bytes);
-    while let Some(found) = first(rest) {
-        list.push(make_lexeme(at, found))?;
-        let (_, more) = rest.split_at(found.length as usize);
-        let next = over(at, found.length);
-        if begins_tail(found.kind) {
-            let stop = tail_stop(next, more);
-            return Ok(Lexemes {
-                list,
-                stop,
-                end: next,
-            });
-        }
-        (at, rest) = behind_space(next, more);
+    let mut here = from_start(bytes);
+    while let Some((lexeme, next)) = next_token(&here) {
+        list.push(lexeme)?;
+        here = next;
     }
-    let stop = end_stop(at, rest);
-    Ok(Lexemes {
-        list,
-        stop,
-        end: at,
-    })
+    let stop = stop_at(&here);
+    let end = here.at;
+    Ok(Lexemes { list, stop, end })
 }

@@ -11,6 +11,7 @@
 
 mod bodies;
 mod cells;
+mod cursor;
 mod files;
 mod formulas;
 mod found;
@@ -30,7 +31,7 @@ pub use files::{File, GuardDecl, GuardDeclList, ProgramDecl};
 pub use formulas::{
     FormulaDecl, ProductDecl, ProductDeclList, Sign, TermDecl, ValueDecl, ValueKind,
 };
-pub use kind::{KEYWORDS, Kind};
+pub use kind::{Kind, keywords};
 pub use lexeme::{Lexeme, Lexemes, Stop, cut, one_cut};
 pub use limits::{
     LARGEST, LONGEST_NAME, MOST_BODY_DEPTH, MOST_FORMULA_NODES, MOST_PROGRAM_BYTES,
