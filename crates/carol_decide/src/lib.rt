@@ -18,17 +18,21 @@ mod fitting;
 mod fork;
 mod found;
 mod frame;
+mod nearer;
 mod piece;
 mod table;
 mod tested;
 mod walk;
+mod wish;
 
 use crate::tested::tested;
 use crate::walk::Walk;
 pub use answer::{Answer, MOST_LEAVES, Why};
 use carol_formula::Formula;
 pub use fitting::can_decide;
+pub use nearer::nearer;
 use std::alloc::{AllocError, Global};
+pub use wish::{Aim, Wish};
 
 /// Decides whether numbers for the variables make the formula true, in at most `leaves` turns:
 /// leaves that close their lists of formulas, and branches. The formula has no `Not` and at most

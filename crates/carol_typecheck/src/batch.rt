@@ -4,6 +4,7 @@ ghost use Rattle.carol_obligation.specs.Budget.{IsDecidable};
 ghost use Rattle.carol_obligation.specs.Listed.{owed_in};
 ghost use Rattle.carol_typecheck.specs.Formulas.{IsVerdictOn};
 
+use crate::aims::Aims;
 use crate::judge::{judge_all, judge_shared};
 use crate::verdict::Verdict;
 use carol_obligation::Obligation;
@@ -75,13 +76,14 @@ impl Batch {
         &self,
         rt: &R,
         alloc: Global,
+        aims: Aims<'_>,
     ) -> Result<Verdict, AllocError>
         ensures { IfOk result (IsVerdictOn (owed_in self.now)) }
     {
         if self.nodes < LEAST_SHARED {
-            return judge_all(alloc, self.waiting.as_slice());
+            return judge_all(alloc, aims, self.waiting.as_slice());
         }
-        judge_shared(rt, alloc, self.waiting.as_slice())
+        judge_shared(rt, alloc, aims, self.waiting.as_slice())
     }
 
     /// None of them waits any more.

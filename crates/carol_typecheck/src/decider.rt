@@ -4,6 +4,7 @@ ghost use Rattle.carol_program.specs.declared.places.Place.{Place as PlaceOf};
 ghost use Rattle.carol_typecheck.specs.Deciding.{IsFoundSoFar};
 ghost use Rattle.carol_typecheck.specs.Formulas.{IsVerdictOn};
 
+use crate::aims::Aims;
 use crate::batch::Batch;
 use crate::verdict::Verdict;
 use carol_formula::Formula;
@@ -16,18 +17,20 @@ use std::thread::Threads;
 #[derive(Drop)]
 pub(crate) struct Decider<'a, R: Threads + Sync> {
     rt: &'a R,
+    aims: Aims<'a>,
     batch: Batch,
     found: Verdict,
 }
 
 impl<'a, R: Threads + Sync> Decider<'a, R> {
     /// Nothing is taken yet.
-    pub(crate) fn new(rt: &'a R, alloc: Global) -> Decider<'a, R>
+    pub(crate) fn new(rt: &'a R, alloc: Global, aims: Aims<'a>) -> Decider<'a, R>
         ensures batch { result.batch ≡ [] }
         ensures found { result.found ≡ Verdict.Good }
     {
         Decider {
             rt,
+            aims,
             batch: Batch::new(alloc),
             found: Verdict::Good,
         }
@@ -38,9 +41,14 @@ impl<'a, R: Threads + Sync> Decider<'a, R> {
         ensures { IfOk result (λ v. (taken : List (PlaceOf × Claim))
             → IsFoundSoFar self.entry.found self.entry.batch taken → IsVerdictOn taken v) }
     {
-        let Decider { rt, batch, found } = self;
+        let Decider {
+            rt,
+            aims,
+            batch,
+            found,
+        } = self;
         if found.is_good() {
-            batch.verdict(rt, alloc)
+            batch.verdict(rt, alloc, aims)
         } else {
             Ok(found)
         }
@@ -61,7 +69,7 @@ impl<'a, R: Threads + Sync> Collector for Decider<'a, R> {
         }
         self.batch.push(Obligation { place, formula })?;
         if self.batch.is_full() {
-            self.found = self.batch.verdict(self.rt, alloc)?;
+            self.found = self.batch.verdict(self.rt, alloc, self.aims)?;
             self.batch.clear();
         }
         Ok(())

@@ -1,5 +1,6 @@
 ghost use Rattle.std.specs.Prelude.{◌≡◌};
 
+use crate::aims::Aims;
 use crate::judge::judge;
 use crate::verdict::Verdict;
 use carol_formula::Formula;
@@ -9,23 +10,25 @@ use std::alloc::{AllocError, Global};
 
 /// Decides each obligation as it comes, up to the first that isn't proved.
 #[derive(Drop)]
-pub(crate) struct Judging {
+pub(crate) struct Judging<'a> {
+    aims: Aims<'a>,
     /// The verdict on all that was taken.
     pub(crate) found: Verdict,
 }
 
-impl Judging {
+impl<'a> Judging<'a> {
     /// Nothing is taken yet.
-    pub(crate) fn new() -> Judging
+    pub(crate) fn new(aims: Aims<'a>) -> Judging<'a>
         ensures { result.found ≡ Verdict.Good }
     {
         Judging {
+            aims,
             found: Verdict::Good,
         }
     }
 }
 
-impl Collector for Judging {
+impl<'a> Collector for Judging<'a> {
     ghost use Rattle.carol_typecheck.specs.Formulas.{IsVerdictOn};
 
     ghost holds = { λ judging taken. IsVerdictOn taken judging.found };
@@ -34,7 +37,7 @@ impl Collector for Judging {
         if !self.found.is_good() {
             return Ok(());
         }
-        self.found = judge(alloc, &Obligation { place, formula })?;
+        self.found = judge(alloc, self.aims, &Obligation { place, formula })?;
         Ok(())
     }
 }

@@ -6,8 +6,9 @@ ghost use Rattle.carol_obligation.specs.Keeping.{AreDecidable};
 ghost use Rattle.carol_typecheck.specs.Deciding.{IsJudged, first_of};
 ghost use Rattle.carol_typecheck.specs.Formulas.{IsVerdictOn};
 
+use crate::aims::Aims;
 use crate::verdict::Verdict;
-use carol_decide::{Answer, MOST_LEAVES, decide};
+use carol_decide::{Answer, MOST_LEAVES, decide, nearer};
 use carol_obligation::Obligation;
 use rayon::prelude::*;
 use std::alloc::{AllocError, Global};
@@ -17,26 +18,38 @@ use std::thread::Threads;
 const MOST_PIECES: usize = 32;
 
 /// The verdict on one formula: it is proved where its denial is refuted.
-pub(crate) fn judge(alloc: Global, obligation: &Obligation) -> Result<Verdict, AllocError>
+pub(crate) fn judge(
+    alloc: Global,
+    aims: Aims<'_>,
+    obligation: &Obligation,
+) -> Result<Verdict, AllocError>
     requires { IsDecidable (claim_of obligation.now.formula) }
     ensures { IfOk result (IsJudged obligation.now) }
 {
     let denial = obligation.formula.denial_form(alloc)?;
     match decide(alloc, &denial, MOST_LEAVES)? {
         Answer::Unsat(_) => Ok(Verdict::Good),
-        Answer::Sat(at) => Ok(Verdict::Fails(obligation.place, at)),
+        Answer::Sat(at) => {
+            let wishes = aims.wishes(alloc, obligation.place)?;
+            let at = nearer(&denial, at, &wishes)?;
+            Ok(Verdict::Fails(obligation.place, at))
+        }
         Answer::Undecided(why) => Ok(Verdict::Undecided(obligation.place, why)),
     }
 }
 
 /// The verdict on all of these formulas, which are decided one after another.
-pub(crate) fn judge_all(alloc: Global, obligations: &[Obligation]) -> Result<Verdict, AllocError>
+pub(crate) fn judge_all(
+    alloc: Global,
+    aims: Aims<'_>,
+    obligations: &[Obligation],
+) -> Result<Verdict, AllocError>
     requires { AreDecidable obligations.now }
     ensures { IfOk result (IsVerdictOn (owed_in obligations.now)) }
 {
     let mut left = obligations;
     while let Some((first, more)) = left.split_first() {
-        let verdict = judge(alloc, first)?;
+        let verdict = judge(alloc, aims, first)?;
         if !verdict.is_good() {
             return Ok(verdict);
         }
@@ -50,6 +63,7 @@ pub(crate) fn judge_all(alloc: Global, obligations: &[Obligation]) -> Result<Ver
 pub(crate) fn judge_shared<R: Threads + Sync>(
     rt: &R,
     alloc: Global,
+    aims: Aims<'_>,
     obligations: &[Obligation],
 ) -> Result<Verdict, AllocError>
     requires { AreDecidable obligations.now }
@@ -63,7 +77,7 @@ pub(crate) fn judge_shared<R: Threads + Sync>(
             |piece: &[Obligation]| -> Result<Verdict, AllocError>
                 requires { AreDecidable piece.now }
                 ensures { IfOk result (IsVerdictOn (owed_in piece.now)) }
-            { judge_all(alloc, piece) },
+            { judge_all(alloc, aims, piece) },
         )
         .collect::<Vec<_>>(rt, alloc)?;
     first_of(answers)

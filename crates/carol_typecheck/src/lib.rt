@@ -3,16 +3,19 @@
 //!
 //! The formulas come from the walk over the program, and are decided in batches, so that memory
 //! grows with the largest of them and not with their number. A batch with enough to do is shared
-//! out among threads, and the answers of its pieces are looked at in order. `specs/` says what a
+//! out among threads, and the answers of its pieces are looked at in order. Of the numbers of a
+//! breach those are given that a reader would pick, which no clause says. `specs/` says what a
 //! verdict means: `Formulas` of formulas alone, `Readings` of what the operations may do.
 //!
 //! Layer: checker. Called by `carol_accept`.
 #![tactic(auto)]
 
+mod aims;
 mod batch;
 mod decider;
 mod direct;
 mod judge;
+mod rounds;
 mod verdict;
 
 ghost use Rattle.std.specs.Prelude.{[], ◌∷◌, IfOk, length};
@@ -21,6 +24,7 @@ ghost use Rattle.carol_program.specs.WellFormed.{AreRules, IsOpOver};
 ghost use Rattle.carol_reading.specs.Good.{IsGood};
 ghost use Rattle.carol_typecheck.specs.Readings.{AreGood, IsFailure, IsVerdictFor, IsVerdictOver};
 
+use crate::aims::Aims;
 use crate::decider::Decider;
 use crate::direct::Judging;
 use carol_obligation::{walk, walk_all};
@@ -44,7 +48,7 @@ pub fn typecheck<R: Threads + Sync>(
     ensures verdict { IfOk result (IsVerdictFor (rules_in program.now)) }
     ensures fails { IfOk result (λ v. IsFailure v → ¬ AreGood (rules_in program.now)) }
 {
-    let mut decider = Decider::new(rt, alloc);
+    let mut decider = Decider::new(rt, alloc, Aims::new(program));
     walk_all(alloc, program, &mut decider)?;
     decider.verdict(alloc)
 }
@@ -66,7 +70,7 @@ pub fn check_op(
     ensures fails { IfOk result
         (λ v. IsFailure v → ¬ IsGood (rules_in program.now) (op_rules op.now)) }
 {
-    let mut judging = Judging::new();
+    let mut judging = Judging::new(Aims::only(program, op));
     walk(alloc, program, op, number, &mut judging)?;
     Ok(judging.found)
 }
