@@ -19,11 +19,23 @@ use crate::deciding::decided;
 use crate::error::AccordError;
 use crate::formulas::{equal_formula, step_formula};
 use crate::steps::all_steps;
-use carol_decide::Answer;
-use carol_formula::Formula;
+use carol_decide::{Aim, Answer, Wish};
+use carol_formula::{Formula, Variable};
 use carol_program::{Entry, EntryList, Place, Program};
 use carol_store::Direction;
-use std::alloc::Global;
+use std::alloc::{AllocError, Global};
+
+// The numbers of a store are wished to be those of the initial one.
+fn initial_wishes(alloc: Global, program: &Program) -> Result<Vec<Wish>, AllocError> {
+    let mut wishes = Vec::new(alloc);
+    for (cell, value) in program.initial.values().iter().enumerate() {
+        wishes.push(Wish {
+            variable: Variable(cell as u32),
+            aim: Aim::Number(i128::from(*value)),
+        })?;
+    }
+    Ok(wishes)
+}
 
 // Whether the guard, which has this number, is true of any two equal stores.
 fn check_reflexive(
@@ -37,7 +49,8 @@ fn check_reflexive(
     ensures err { IfErr result (StopsEqual (rules_in program.now) number (claim_of guard.now)) }
 {
     let formula = equal_formula(alloc, program.shape.kinds(), guard)?;
-    match decided(alloc, &formula)? {
+    let wishes = initial_wishes(alloc, program)?;
+    match decided(alloc, &formula, &wishes)? {
         Answer::Unsat(_) => Ok(()),
         Answer::Sat(at) => Err(AccordError::NotReflexive { guard: number, at }),
         Answer::Undecided(why) => {
@@ -63,7 +76,7 @@ fn entry(
     let kinds = program.shape.kinds();
     let kind = kinds[step.cell as usize];
     let formula = step_formula(alloc, kinds, guard, kind, step)?;
-    match decided(alloc, &formula)? {
+    match decided(alloc, &formula, &[])? {
         Answer::Unsat(_) => Ok(Entry::Yes),
         Answer::Sat(at) => Ok(Entry::No(at)),
         Answer::Undecided(why) => {

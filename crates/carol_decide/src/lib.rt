@@ -57,3 +57,29 @@ pub fn decide(alloc: Global, formula: &Formula, leaves: u32) -> Result<Answer, A
         }
     }
 }
+
+/// The same, and numbers that make the formula true are brought near to what is wished, as
+/// `nearer` does.
+pub fn decide_with(
+    alloc: Global,
+    formula: &Formula,
+    leaves: u32,
+    wishes: &[Wish],
+) -> Result<Answer, AllocError>
+    requires no_not { HasNoNot (claim_of formula.now) }
+    requires narrow { ClaimWithin narrow_limit (claim_of formula.now) }
+    requires small { nodes_of (claim_of formula.now) ≤ 65536 }
+    requires some { 1 ≤ leaves }
+    requires most { leaves ≤ 1000000 }
+    ensures answer { IfOk result (IsAnswer (claim_of formula.now) leaves) }
+    ensures settles { IfOk result (Settles (claim_of formula.now) leaves) }
+{
+    match decide(alloc, formula, leaves)? {
+        Answer::Sat(values) => {
+            let values = nearer(formula, values, wishes)?;
+            Ok(Answer::Sat(values))
+        }
+        Answer::Unsat(tree) => Ok(Answer::Unsat(tree)),
+        Answer::Undecided(why) => Ok(Answer::Undecided(why)),
+    }
+}

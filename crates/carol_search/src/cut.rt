@@ -1,11 +1,10 @@
 //! Rows that follow for whole numbers.
 
-use crate::form::{Bound, Product, Reason, divided, divisor_of};
-use crate::list::{add, at, get, get_mut};
-use crate::number::{floor, fused, negated, remainder, sum};
 use crate::state::{Cut, Refuted, State};
-use crate::stop::Stop;
-use crate::tableau::Cited;
+use carol_search_rows::{
+    Bound, Cited, Product, Reason, Stop, add, at, divided, divisor_of, floor, fused, get, get_mut,
+    negated, remainder, sum,
+};
 use std::alloc::Global;
 
 // How many cuts are made at a time.

@@ -1,11 +1,8 @@
 //! Bounds of variables that both sides of a choice have.
 
-use crate::form::Product;
-use crate::list::{add, at, get};
 use crate::node::{Claim, Side, Sort};
-use crate::number::{Fraction, floor, negated, product, sum};
 use crate::state::State;
-use crate::stop::Stop;
+use carol_search_rows::{Fraction, Product, Stop, add, at, floor, get, negated, product, sum};
 use std::alloc::Global;
 
 /// A bound of a variable.

@@ -5,25 +5,18 @@
 #![tactic(auto)]
 
 mod cut;
-mod form;
 mod hull;
-mod list;
 mod node;
-mod number;
-mod simplex;
 mod state;
-mod stop;
-mod tableau;
 mod tree;
 mod walk;
 
-use crate::list::at;
 use crate::state::State;
-use crate::stop::{Fuel, Stop};
 use crate::tree::refutation;
 use crate::walk::Task;
 use carol_cert::Refutation;
 use carol_formula::{Formula, Valuation, Variable};
+use carol_search_rows::{Fuel, Stop, at};
 use std::alloc::{AllocError, Global};
 
 // How many steps a search takes at most.

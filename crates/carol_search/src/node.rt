@@ -1,10 +1,9 @@
 //! The formula as a list of nodes, and what its comparisons say of forms.
 
-use crate::form::{Forms, Product, Signed, divided, divisor_of};
-use crate::list::{add, at, get, get_mut};
-use crate::number::{floor, negated, sum};
-use crate::stop::Stop;
 use carol_formula::{Formula, Term};
+use carol_search_rows::{
+    Forms, Product, Signed, Stop, add, at, divided, divisor_of, floor, get, get_mut, negated, sum,
+};
 use std::alloc::Global;
 
 // The most nodes of a formula that is searched.

@@ -1,12 +1,11 @@
 //! Where a search stands, and what it asks there.
 
-use crate::form::{Bound, Reason};
-use crate::list::{add, at, cite, cite_all, get, get_mut};
 use crate::node::{Claim, Flattened, Node, Side, Sort};
-use crate::number::Fraction;
-use crate::stop::{Fuel, Stop};
-use crate::tableau::{Cited, Mark, Tableau};
 use carol_formula::Formula;
+use carol_search_rows::{
+    Bound, Cited, Fraction, Fuel, Mark, Reason, Stop, Tableau, add, at, cite, cite_all, get,
+    get_mut,
+};
 use std::alloc::Global;
 
 // How deep a formula is looked into.

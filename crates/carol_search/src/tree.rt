@@ -1,13 +1,10 @@
 //! The refutation that a search found, as one of the formula.
 
-use crate::form::Reason;
-use crate::list::{add, at, get, put};
 use crate::node::{Claim, Side, Sort};
 use crate::state::{State, Tree};
-use crate::stop::Stop;
-use crate::tableau::Cited;
 use carol_cert::{Refutation, RowStep, StepList};
 use carol_formula::{Boxed, Variable};
+use carol_search_rows::{Cited, Reason, Stop, add, at, get, put};
 use std::alloc::Global;
 
 // How many jobs are done at most, and how many wait at most. A refutation is no deeper than that.

@@ -1,12 +1,9 @@
 //! The search itself: choices, branches, and what they find.
 
 use crate::cut::Outcome;
-use crate::form::{Bound, Reason};
 use crate::hull::Limit;
-use crate::list::{add, at, cite, get_mut};
-use crate::number::{Fraction, sum};
 use crate::state::{BranchRow, BranchTree, Closed, Frame, Pick, Refuted, State, Tree, Trial};
-use crate::stop::Stop;
+use carol_search_rows::{Bound, Fraction, Reason, Stop, add, at, cite, get_mut, sum};
 use std::alloc::Global;
 
 // How many levels there are at most.

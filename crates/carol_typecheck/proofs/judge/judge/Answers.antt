@@ -21,6 +21,9 @@ pub decide-requires-clause-small : goal.decide-requires-clause-small
 decide-requires-clause-small c =
     small_denial (claim_of c.args.obligation.now.formula) (claim_of c.in_ok-denial.denial) c.in_ok-denial.ensures.form c.requires.few
 
+pub nearer-requires-clause-sat : goal.nearer-requires-clause-sat
+nearer-requires-clause-sat c = subst (IsAnswer (claim_of c.in_ok-denial.denial) MOST_LEAVES) c.in-Sat.is c.in_ok-decide.ensures.answer
+
 pub returns-in-Unsat : goal.returns-in-Unsat
 returns-in-Unsat c =
     let o = c.args.obligation.now in
@@ -29,7 +32,7 @@ returns-in-Unsat c =
 pub returns-in-Sat : goal.returns-in-Sat
 returns-in-Sat c =
     let o = c.args.obligation.now in
-    inl (refl, false_at (claim_of o.formula) (claim_of c.in_ok-denial.denial) (number_at c.in-Sat.at) c.in_ok-denial.ensures.truth (subst (IsAnswer (claim_of c.in_ok-denial.denial) MOST_LEAVES) c.in-Sat.is c.in_ok-decide.ensures.answer))
+    inl (refl, false_at (claim_of o.formula) (claim_of c.in_ok-denial.denial) (number_at c.in_ok-at.at) c.in_ok-denial.ensures.truth c.in_ok-at.ensures)
 
 pub returns : goal.returns
 returns c =
