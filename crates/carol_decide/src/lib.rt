@@ -18,7 +18,7 @@ mod fitting;
 mod fork;
 mod found;
 mod frame;
-mod nearer;
+mod nearing;
 mod piece;
 mod table;
 mod tested;
@@ -30,7 +30,7 @@ use crate::walk::Walk;
 pub use answer::{Answer, MOST_LEAVES, Why};
 use carol_formula::Formula;
 pub use fitting::can_decide;
-pub use nearer::nearer;
+pub use nearing::nearer;
 use std::alloc::{AllocError, Global};
 pub use wish::{Aim, Wish};
 

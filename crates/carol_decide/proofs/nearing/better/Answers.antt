@@ -1,7 +1,7 @@
 use Rattle.carol_formula.specs.Numbers.{number_at}
 use Rattle.carol_formula.specs.Tree.{claim_of}
 use Rattle.carol_decide.proofs.Meeting.{makes_from}
-use Rattle.carol_decide.proofs.nearer.better.Goals as goal
+use Rattle.carol_decide.proofs.nearing.better.Goals as goal
 
 pub returns-then-is_met : goal.returns-then-is_met
 returns-then-is_met c =
