@@ -1,8 +1,9 @@
 //! Numbers that make a formula true, brought near to those that are wished for.
 
-ghost use Rattle.std.specs.Prelude.{IfOk};
+ghost use Rattle.std.specs.Prelude.{◌≤◌, IfOk};
 ghost use Rattle.carol_formula.specs.Claim.{HasNoNot};
 ghost use Rattle.carol_formula.specs.Numbers.{number_at};
+ghost use Rattle.carol_formula.specs.Size.{nodes_of};
 ghost use Rattle.carol_formula.specs.Tree.{claim_of};
 ghost use Rattle.carol_decide.specs.Answer.{IsSat};
 
@@ -29,7 +30,9 @@ fn between(one: i128, other: i128) -> i128 {
 }
 
 // How often other numbers may be tried.
-fn tries_for(formula: &Formula) -> u32 {
+fn tries_for(formula: &Formula) -> u32
+    requires { nodes_of (claim_of formula.now) ≤ 65536 }
+{
     match MOST_LOOKS.checked_div(formula.nodes()) {
         Some(tries) => tries,
         None => 0,
@@ -181,14 +184,15 @@ fn gone_through(
 
 /// Numbers that make the formula true, where these do, and that come nearer to what is wished: the
 /// wishes are gone through in order, first those to be like another variable, and what keeps the
-/// formula true is kept. Wishes to be like a variable stand behind that variable's own. The work is
-/// bounded, whatever the formula is. The only error is want of memory.
+/// formula true is kept. Wishes to be like a variable stand behind that variable's own. The formula
+/// has no `Not` and at most 65,536 nodes, and the work is bounded. The only error is want of memory.
 pub fn nearer(
     formula: &Formula,
     values: Valuation,
     wishes: &[Wish],
 ) -> Result<Valuation, AllocError>
     requires no_not { HasNoNot (claim_of formula.now) }
+    requires small { nodes_of (claim_of formula.now) ≤ 65536 }
     requires sat { IsSat (claim_of formula.now) (number_at values) }
     ensures { IfOk result (λ v. IsSat (claim_of formula.now) (number_at v)) }
 {

@@ -21,6 +21,10 @@ pub decide-requires-clause-small : goal.decide-requires-clause-small
 decide-requires-clause-small c =
     small_denial (claim_of c.args.obligation.now.formula) (claim_of c.in_ok-denial.denial) c.in_ok-denial.ensures.form c.requires.few
 
+pub nearer-requires-clause-small : goal.nearer-requires-clause-small
+nearer-requires-clause-small c =
+    small_denial (claim_of c.args.obligation.now.formula) (claim_of c.in_ok-denial.denial) c.in_ok-denial.ensures.form c.requires.few
+
 pub nearer-requires-clause-sat : goal.nearer-requires-clause-sat
 nearer-requires-clause-sat c = subst (IsAnswer (claim_of c.in_ok-denial.denial) MOST_LEAVES) c.in-Sat.is c.in_ok-decide.ensures.answer
 
