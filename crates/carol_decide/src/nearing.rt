@@ -184,8 +184,9 @@ fn gone_through(
 
 /// Numbers that make the formula true, where these do, and that come nearer to what is wished: the
 /// wishes are gone through in order, first those to be like another variable, and what keeps the
-/// formula true is kept. Wishes to be like a variable stand behind that variable's own. The formula
-/// has no `Not` and at most 65,536 nodes, and the work is bounded. The only error is want of memory.
+/// formula true is kept. A wish to be like a variable stands behind that variable's own. The
+/// formula has no `Not` and at most 65,536 nodes, and the work is bounded. The only error is want
+/// of memory.
 pub fn nearer(
     formula: &Formula,
     values: Valuation,

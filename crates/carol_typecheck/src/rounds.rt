@@ -52,15 +52,14 @@ impl Rounds {
     }
 
     // Looks at one statement, and gives its number. What stands behind it waits.
-    fn look<'a>(
-        &mut self,
-        waiting: &mut Vec<Spot<'a>>,
-        spot: Spot<'a>,
-    ) -> Result<u32, AllocError> {
+    fn look<'a>(&mut self, waiting: &mut Vec<Spot<'a>>, spot: Spot<'a>) -> Result<u32, AllocError> {
         let Spot { step, round } = spot;
         match step {
             Step::Query {
-                number, slot, next, ..
+                number,
+                slot,
+                next,
+                ..
             } => {
                 self.asked.push(Asked { slot: *slot, round })?;
                 let step = next.get();
@@ -74,7 +73,10 @@ impl Rounds {
                 Ok(*number)
             }
             Step::Branch {
-                number, yes, no, ..
+                number,
+                yes,
+                no,
+                ..
             } => {
                 let step = no.get();
                 waiting.push(Spot { step, round })?;
