@@ -28,10 +28,11 @@ use std::alloc::{AllocError, Global};
 // The numbers of a store are wished to be those of the initial one.
 fn initial_wishes(alloc: Global, program: &Program) -> Result<Vec<Wish>, AllocError> {
     let mut wishes = Vec::new(alloc);
-    for (cell, value) in program.initial.values().iter().enumerate() {
+    for cell in 0..program.initial.len() {
+        let value = program.initial.get(cell);
         wishes.push(Wish {
-            variable: Variable(cell as u32),
-            aim: Aim::Number(i128::from(*value)),
+            variable: Variable(cell),
+            aim: Aim::Number(i128::from(value)),
         })?;
     }
     Ok(wishes)

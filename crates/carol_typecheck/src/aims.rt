@@ -3,12 +3,10 @@
 use crate::rounds::Rounds;
 use carol_decide::{Aim, Wish};
 use carol_formula::Variable;
+use carol_obligation::FIRST_ROUND;
 use carol_program::{FIRST_PARAMETER, FIRST_QUERIED, Op, Place, Program, STORE_VARIABLES};
 use carol_store::CellKind;
 use std::alloc::{AllocError, Global};
-
-// The variable of the first cell of the store of the first round.
-const FIRST_ROUND: u32 = 192;
 
 // The variable of a cell of the store with this number.
 fn cell_variable(first: u32, store: u32, cell: u32) -> Variable {
@@ -86,11 +84,11 @@ impl<'a> Aims<'a> {
     ) -> Result<(), AllocError> {
         let mut later = None;
         for round in &rounds.shown(alloc)? {
-            for (cell, value) in self.program.initial.values().iter().enumerate() {
-                let cell = cell as u32;
+            for cell in 0..self.program.initial.len() {
+                let value = self.program.initial.get(cell);
                 let aim = match later {
                     Some(later) => Aim::Like(cell_variable(FIRST_ROUND, later, cell)),
-                    None => Aim::Number(i128::from(*value)),
+                    None => Aim::Number(i128::from(value)),
                 };
                 let variable = cell_variable(FIRST_ROUND, *round, cell);
                 wishes.push(Wish { variable, aim })?;
