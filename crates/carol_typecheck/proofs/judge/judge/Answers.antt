@@ -36,7 +36,7 @@ returns-in-Unsat c =
 pub returns-in-Sat : goal.returns-in-Sat
 returns-in-Sat c =
     let o = c.args.obligation.now in
-    inl (refl, false_at (claim_of o.formula) (claim_of c.in_ok-denial.denial) (number_at c.in_ok-at.at) c.in_ok-denial.ensures.truth c.in_ok-at.ensures)
+    inl (refl, false_at (claim_of o.formula) (claim_of c.in_ok-denial.denial) (number_at c.in_ok-at-in-Sat.at) c.in_ok-denial.ensures.truth c.in_ok-at-in-Sat.ensures)
 
 pub returns : goal.returns
 returns c =
