@@ -5,6 +5,8 @@ use Rattle.carol_program.specs.declared.names.Names.{Names}
 use Rattle.carol_program.specs.declared.places.Place.{Place}
 use Rattle.carol_program.specs.declared.places.Place.TheVariants.{Initial, Reflexive, Accord, Amount, Invariant, Outcome}
 use Rattle.carol_program.specs.Called.{own_of, params_of, queries_of}
+use Rattle.carol_program.specs.Variables.{param_variable, query_variable, store_variables, there_variable}
+use Rattle.carol_obligation.specs.Decoded.{round_variable}
 
 -- the name with this number; none has no bytes
 abbrev pub name_at : List (List ℕ) → ℕ → List ℕ
@@ -37,16 +39,24 @@ place_text names (Outcome op number) = statement_text names op number ++ codes "
 -- of a guard: a cell of the store that was read, or of the global one
 abbrev pub guard_variable_text : Names → ℕ → List ℕ
 guard_variable_text names v =
-    if nat_lt v 16 then codes "here " ++ name_at names.cells v else codes "there " ++ name_at names.cells (v - 16)
+    if nat_lt v (there_variable 0) then codes "here " ++ name_at names.cells v
+    else codes "there " ++ name_at names.cells (v - there_variable 0)
+
+-- the number of the store, and its cell, where the variables of the stores begin with this one
+abbrev pub store_of : ℕ → ℕ → ℕ
+store_of first v = (v - first) / store_variables
+
+abbrev pub cell_of : Names → ℕ → ℕ → List ℕ
+cell_of names first v = name_at names.cells ((v - first) % store_variables)
 
 -- of an operation: a cell after an effect, a parameter, a cell of a query's store, or one of the store of
 -- a round, the first of which is called 1
 abbrev pub op_variable_text : Names → ℕ → ℕ → List ℕ
 op_variable_text names op v =
-    if nat_lt v 32 then codes "after " ++ name_at names.cells v
-    else if nat_lt v 64 then name_at (params_of names op) (v - 32)
-    else if nat_lt v 192 then name_at (queries_of names op) ((v - 64) / 16) ++ (codes "." ++ name_at names.cells ((v - 64) % 16))
-    else codes "round " ++ (decimal ((v - 192) / 16 + 1) ++ (codes " " ++ name_at names.cells ((v - 192) % 16)))
+    if nat_lt v (param_variable 0) then codes "after " ++ name_at names.cells v
+    else if nat_lt v (query_variable 0 0) then name_at (params_of names op) (v - param_variable 0)
+    else if nat_lt v (round_variable 0 0) then name_at (queries_of names op) (store_of (query_variable 0 0) v) ++ (codes "." ++ cell_of names (query_variable 0 0) v)
+    else codes "round " ++ (decimal (store_of (round_variable 0 0) v + 1) ++ (codes " " ++ cell_of names (round_variable 0 0) v))
 
 -- what a variable is called at a place
 abbrev pub variable_text : Names → Place → ℕ → List ℕ

@@ -28,7 +28,8 @@ ghost use Rattle.carol_accept.specs.Trails.{start};
 use crate::names::{push_text, push_variable};
 use crate::trail::{Asked, Trail, trail_to};
 use carol_formula::{Lookup, Variable};
-use carol_program::{Names, Op, Place, Program};
+use carol_obligation::round_variable;
+use carol_program::{FIRST_PARAMETER, Names, Op, Place, Program, query_variable};
 use carol_text::push_integer;
 use std::alloc::{AllocError, Global};
 
@@ -90,7 +91,7 @@ impl<'a, L: Lookup> Shown<'a, L> {
     {
         let mut left = asked;
         while let Some((first, more)) = left.split_first() {
-            let base = 64 + 16 * first.slot;
+            let base = query_variable(first.slot, 0);
             self.push_numbers(out, cells, base, base)?;
             left = more;
         }
@@ -106,8 +107,8 @@ impl<'a, L: Lookup> Shown<'a, L> {
             (L.numbers self.now.numbers.now) cells trail.now (trail.now.rounds + 1) 0) }
     {
         for round in 0..trail.rounds + 1 {
-            let named = 192 + 16 * round;
-            let shown = 192 + 16 * trail.shown_for(round);
+            let named = round_variable(round, 0);
+            let shown = round_variable(trail.shown_for(round), 0);
             self.push_numbers(out, cells, named, shown)?;
         }
         Ok(())
@@ -142,7 +143,12 @@ impl<'a, L: Lookup> Shown<'a, L> {
             ++ statement_lines (variable_text self.now.names.now self.now.place)
             (L.numbers self.now.numbers.now) cells number (Some (op_rules op.now))) }
     {
-        self.push_numbers(out, op.params.len() as u32, 32, 32)?;
+        self.push_numbers(
+            out,
+            op.params.len() as u32,
+            FIRST_PARAMETER,
+            FIRST_PARAMETER,
+        )?;
         match trail_to(number, &op.body, Trail::new(alloc)) {
             Some(trail) => self.push_trail(out, cells, &trail),
             None => Ok(()),

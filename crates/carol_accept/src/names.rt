@@ -12,7 +12,10 @@ ghost use Rattle.carol_accept.specs.Named.{
 };
 
 use carol_formula::Variable;
-use carol_program::{Name, Names, Place};
+use carol_obligation::FIRST_ROUND;
+use carol_program::{
+    FIRST_PARAMETER, FIRST_QUERIED, FIRST_THERE, Name, Names, Place, STORE_VARIABLES,
+};
 use carol_text::push_integer;
 use std::alloc::AllocError;
 
@@ -119,12 +122,12 @@ fn push_guard_variable(out: &mut Vec<u8>, names: &Names, v: u32) -> Result<(), A
     ensures { OnOk result (out.new.items ≡ out.old.items ++ guard_variable_text names.now v) }
 {
     let cells = names.cells.as_slice();
-    if v < 16 {
+    if v < FIRST_THERE {
         push_text(out, "here ")?;
         return push_name(out, cells, v);
     }
     push_text(out, "there ")?;
-    push_name(out, cells, v - 16)
+    push_name(out, cells, v - FIRST_THERE)
 }
 
 // Appends the name of a variable of an operation.
@@ -132,22 +135,26 @@ fn push_op_variable(out: &mut Vec<u8>, names: &Names, op: u32, v: u32) -> Result
     ensures { OnOk result (out.new.items ≡ out.old.items ++ op_variable_text names.now op v) }
 {
     let cells = names.cells.as_slice();
-    if v < 32 {
+    if v < FIRST_PARAMETER {
         push_text(out, "after ")?;
         return push_name(out, cells, v);
     }
-    if v < 64 {
-        return push_name(out, params(names, op), v - 32);
+    if v < FIRST_QUERIED {
+        return push_name(out, params(names, op), v - FIRST_PARAMETER);
     }
-    if v < 192 {
-        push_name(out, queries(names, op), (v - 64) / 16)?;
+    if v < FIRST_ROUND {
+        push_name(
+            out,
+            queries(names, op),
+            (v - FIRST_QUERIED) / STORE_VARIABLES,
+        )?;
         push_text(out, ".")?;
-        return push_name(out, cells, (v - 64) % 16);
+        return push_name(out, cells, (v - FIRST_QUERIED) % STORE_VARIABLES);
     }
     push_text(out, "round ")?;
-    push_integer(out, (v - 192) / 16 + 1)?;
+    push_integer(out, (v - FIRST_ROUND) / STORE_VARIABLES + 1)?;
     push_text(out, " ")?;
-    push_name(out, cells, (v - 192) % 16)
+    push_name(out, cells, (v - FIRST_ROUND) % STORE_VARIABLES)
 }
 
 /// Appends what the variable is called at the place.

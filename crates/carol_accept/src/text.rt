@@ -1,5 +1,6 @@
 ghost use Rattle.std.specs.Prelude.{◌≡◌, ◌++◌, ◌<◌, ◌≤◌, length, slice_get, OnOk, IfOk, Some};
 ghost use Rattle.carol_program.specs.Accords.{HasWay};
+ghost use Rattle.carol_program.specs.Limits.{most_cells};
 ghost use Rattle.carol_accept.specs.Texts as text;
 ghost use Rattle.carol_accept.specs.Texts.{
   answer_word,
@@ -77,7 +78,7 @@ fn push_guard(
     guard: u32,
 ) -> Result<(), AllocError>
     requires kinds { kinds.now ≡ table.now.kinds }
-    requires few { length kinds.now ≤ 16 }
+    requires few { length kinds.now ≤ most_cells }
     requires guard { guard < table.now.guards }
     ensures { OnOk result (out.new.items ≡ out.old.items
         ++ guard_text names.now table.now kinds.now guard) }

@@ -7,21 +7,21 @@ use Rattle.carol_store.specs.declared.shape.CellKind.{CellKind}
 use Rattle.carol_store.specs.declared.shape.CellKind.TheVariants.{Counter, Peak, Flag}
 use Rattle.carol_store.specs.declared.direction.Direction.{Direction}
 use Rattle.carol_store.specs.Directions.{unit_step}
-use Rattle.carol_store.specs.Kinds.{CellValue, MayHold, stepped}
+use Rattle.carol_store.specs.Kinds.{CellValue, stepped}
 use Rattle.carol_store.specs.Stores.{IsStore}
-use Rattle.carol_formula.specs.Claim.{Claim, Le, is_at_most_zero, truth}
-use Rattle.carol_formula.specs.Linear.{constant_of, variable_of, difference_of}
+use Rattle.carol_formula.specs.Claim.{Claim, True, truth}
+use Rattle.carol_formula.specs.Linear.{constant_of, variable_of}
 use Rattle.carol_formula.specs.Value.{value_at}
-use Rattle.carol_formula.proofs.Claims.{at_most_zero, is_at_most_zero_from}
 use Rattle.carol_formula.proofs.Sums.{value_at-sum_of, value_at-difference_of}
 use Rattle.carol_formula.specs.Named.{named_claim, through}
 use Rattle.carol_formula.proofs.Renamings.{truth-named_claim}
+use Rattle.carol_program.proofs.Holdings.{with_kinds-say}
 use Rattle.carol_program.specs.Preserving.{Preserves}
 use Rattle.carol_program.specs.Rules.{Rules}
 use Rattle.carol_program.specs.Variables.{number_in, number_in_two, there_variable, store_at}
 use Rattle.carol_reading.specs.Good.{IsReflexive}
 use Rattle.carol_accord.specs.Broken.{here_of, there_of, BreaksEqual, BreaksStep}
-use Rattle.carol_accord.specs.Formed.{is_flag, with_flag, flags, equal_name, equal_claim, stepped_name, step_name, step_claim}
+use Rattle.carol_accord.specs.Formed.{stored, equal_name, equal_claim, stepped_name, step_name, step_claim}
 use Rattle.carol_accord.specs.Parts.{IsGuard}
 use Rattle.carol_accord.proofs.Cells.{cells-same, cells-back, cells-stepped, truth-stores}
 
@@ -43,47 +43,13 @@ value_at-variable v f = omega (arith, ints)
 value_at-constant : (z : ℤ) (f : ℕ → ℤ) → value_at (constant_of z) f ≡ z
 value_at-constant z f = omega (arith, ints)
 
--- ---- flags
-
-below-one : (z : ℤ) → ((is_at_most_zero (pos 0 -ℤ z) ≡ true) × (is_at_most_zero (z -ℤ pos 1) ≡ true)) ↔ MayHold Flag z
-below-one z = (λ h. between z (at_most_zero (pos 0 -ℤ z) h.0) (at_most_zero (z -ℤ pos 1) h.1), ends z)
-  where
-    between : (z : ℤ) → (pos 0 -ℤ z) ≤ℤ pos 0 → (z -ℤ pos 1) ≤ℤ pos 0 → (z ≡ pos 0) ⊎ (z ≡ pos 1)
-    between (pos zero) h k = inl refl
-    between (pos (suc zero)) h k = inr refl
-    between (pos (suc (suc n))) h k = absurd (omega (arith, ints, k))
-    between (negsuc n) h k = absurd (omega (arith, ints, h))
-
-    ends : (z : ℤ) → (z ≡ pos 0) ⊎ (z ≡ pos 1) → (is_at_most_zero (pos 0 -ℤ z) ≡ true) × (is_at_most_zero (z -ℤ pos 1) ≡ true)
-    ends z (inl e) = (is_at_most_zero_from (pos 0 -ℤ z) (omega (arith, ints, e)), is_at_most_zero_from (z -ℤ pos 1) (omega (arith, ints, e)))
-    ends z (inr e) = (is_at_most_zero_from (pos 0 -ℤ z) (omega (arith, ints, e)), is_at_most_zero_from (z -ℤ pos 1) (omega (arith, ints, e)))
-
 module _ (f : ℕ → ℤ) where
-  is_flag-says : (v : ℕ) → (truth (is_flag v) f ≡ true) ↔ MayHold Flag (f v)
-  is_flag-says v =
-      let low : truth (Le (difference_of (constant_of (pos 0)) (variable_of v))) f ≡ is_at_most_zero (pos 0 -ℤ f v) =
-      ap is_at_most_zero (value_at-difference_of (constant_of (pos 0)) (variable_of v) f ∙ ap (λ z. z -ℤ value_at (variable_of v) f) (value_at-constant (pos 0) f) ∙ ap (λ z. pos 0 -ℤ z) (value_at-variable v f))
-      in let high : truth (Le (difference_of (variable_of v) (constant_of (pos 1)))) f ≡ is_at_most_zero (f v -ℤ pos 1) =
-      ap is_at_most_zero (value_at-difference_of (variable_of v) (constant_of (pos 1)) f ∙ ap (λ z. z -ℤ value_at (constant_of (pos 1)) f) (value_at-variable v f) ∙ ap (λ z. f v -ℤ z) (value_at-constant (pos 1) f))
-      in let parts = and-parts (truth (Le (difference_of (constant_of (pos 0)) (variable_of v))) f) (truth (Le (difference_of (variable_of v) (constant_of (pos 1)))) f)
-      in (
-        λ h. let both = parts.0 h in (below-one (f v)).0 (sym low ∙ both.0, sym high ∙ both.1),
-        λ h. let both = (below-one (f v)).1 h in parts.1 (low ∙ both.0, high ∙ both.1),
-      )
+  -- ---- stores
 
-  with_flag-says : (kind : CellKind) (v : ℕ) (c : Claim) → (truth (with_flag kind v c) f ≡ true) ↔ (MayHold kind (f v) × (truth c f ≡ true))
-  with_flag-says Counter v c = (λ h. (tt, h), λ h. h.1)
-  with_flag-says Peak v c = (λ h. (tt, h), λ h. h.1)
-  with_flag-says Flag v c =
-      let parts = and-parts (truth (is_flag v) f) (truth c f)
-      in (λ h. let both = parts.0 h in ((is_flag-says v).0 both.0, both.1), λ h. parts.1 ((is_flag-says v).1 h.0, h.1))
-
-  flags-say : (kinds : List CellKind) (base : ℕ) → (truth (flags kinds base) f ≡ true) ↔ IsStore kinds (store_at kinds base f)
-  flags-say [] base = (λ h. tt, λ h. refl)
-  flags-say (kind ∷ kinds) base =
-      let own = with_flag-says kind base (flags kinds (base + 1))
-      in let more = flags-say kinds (base + 1)
-      in (λ h. let both = own.0 h in (both.0, more.0 both.1), λ h. own.1 (h.0, more.1 h.1))
+  stored-says : (kinds : List CellKind) (base : ℕ) → (truth (stored kinds base) f ≡ true) ↔ IsStore kinds (store_at kinds base f)
+  stored-says kinds base =
+      let whole = with_kinds-say f kinds base True
+      in (λ h. (whole.0 h).1, λ s. whole.1 (refl, s))
 
   -- ---- what stands for a cell
 
@@ -124,11 +90,11 @@ module _ (kinds : List CellKind) (guard : Claim) (g : IsGuard kinds guard) (f : 
 
   pub equal-exact : (truth (equal_claim kinds guard) f ≡ true) ↔ BreaksEqual kinds guard f
   equal-exact =
-      let parts = and-parts (truth (flags kinds 0) f) (not (truth (named_claim equal_name guard) f))
+      let parts = and-parts (truth (stored kinds 0) f) (not (truth (named_claim equal_name guard) f))
       in let denied = not-part (truth (named_claim equal_name guard) f)
       in (
-        λ h. let both = parts.0 h in record { store = (flags-say f kinds 0).0 both.0; fails = sym equal-truth ∙ denied.0 both.1 },
-        λ b. parts.1 ((flags-say f kinds 0).1 b.store, denied.1 (equal-truth ∙ b.fails)),
+        λ h. let both = parts.0 h in record { store = (stored-says f kinds 0).0 both.0; fails = sym equal-truth ∙ denied.0 both.1 },
+        λ b. parts.1 ((stored-says f kinds 0).1 b.store, denied.1 (equal-truth ∙ b.fails)),
       )
 
 -- ---- a step
@@ -146,18 +112,18 @@ module _ (kinds : List CellKind) (guard : Claim) (g : IsGuard kinds guard) (kind
 
   pub step-exact : (truth (step_claim kinds guard kind step) f ≡ true) ↔ BreaksStep kinds guard step f
   step-exact =
-      let whole = and-parts (truth (flags kinds 0) f && truth (flags kinds 16) f) (truth guard f && not (truth (named_claim (step_name kind step) guard) f))
-      in let stores = and-parts (truth (flags kinds 0) f) (truth (flags kinds 16) f)
+      let whole = and-parts (truth (stored kinds 0) f && truth (stored kinds 16) f) (truth guard f && not (truth (named_claim (step_name kind step) guard) f))
+      in let stores = and-parts (truth (stored kinds 0) f) (truth (stored kinds 16) f)
       in let breaks = and-parts (truth guard f) (not (truth (named_claim (step_name kind step) guard) f))
       in let denied = not-part (truth (named_claim (step_name kind step) guard) f)
       in (
         λ h. let both = whole.0 h in let two = stores.0 both.0 in let last = breaks.0 both.1 in record {
-          here = (flags-say f kinds 0).0 two.0;
-          there = (flags-say f kinds 16).0 two.1;
+          here = (stored-says f kinds 0).0 two.0;
+          there = (stored-says f kinds 16).0 two.1;
           before = truth-stores kinds guard g f ∙ last.0;
           after = sym step-truth ∙ denied.0 last.1;
         },
-        λ b. whole.1 (stores.1 ((flags-say f kinds 0).1 b.here, (flags-say f kinds 16).1 b.there), breaks.1 (sym (truth-stores kinds guard g f) ∙ b.before, denied.1 (step-truth ∙ b.after))),
+        λ b. whole.1 (stores.1 ((stored-says f kinds 0).1 b.here, (stored-says f kinds 16).1 b.there), breaks.1 (sym (truth-stores kinds guard g f) ∙ b.before, denied.1 (step-truth ∙ b.after))),
       )
 
 -- ---- where nothing breaks it

@@ -6,21 +6,17 @@ use Rattle.carol_store.specs.declared.shape.CellKind.{CellKind}
 use Rattle.carol_store.specs.declared.shape.CellKind.TheVariants.{Counter, Peak, Flag}
 use Rattle.carol_store.specs.declared.direction.Direction.{Direction}
 use Rattle.carol_formula.specs.Claim.{Claim, True, False, Le, Eq, Ne, And, Or, Not, EachTerm}
-use Rattle.carol_formula.specs.Linear.{Linear, IsWithin, difference_of, variable_of, constant_of}
+use Rattle.carol_formula.specs.Linear.{Linear, variable_of, constant_of}
 use Rattle.carol_formula.specs.Weight.{mass, weight}
-use Rattle.carol_formula.proofs.Weights.{weight-sum_of, weight-difference_of, IsWithin-weight}
+use Rattle.carol_formula.proofs.Weights.{weight-sum_of, weight-difference_of}
 use Rattle.carol_formula.specs.Named.{AllNamed, IsNameable, IsNameableClaim, named_mass, named_weight, named_claim}
 use Rattle.carol_formula.proofs.Renamings.{weight-named_claim}
+use Rattle.carol_program.proofs.Holdings.{with_kinds-light, with_kinds-nodes}
 use Rattle.carol_program.specs.Variables.{guard_variables, there_variable}
 use Rattle.carol_program.specs.WellFormed.{AreSmall, IsTermOver}
 use Rattle.carol_formula.specs.Size.{nodes_of, IsLight}
-use Rattle.carol_accord.specs.Formed.{with_flag, flags, equal_name, equal_claim, stepped_name, step_name, step_claim}
+use Rattle.carol_accord.specs.Formed.{equal_name, equal_claim, stepped_name, step_name, step_claim}
 use Rattle.carol_accord.specs.Parts.{IsGuard, most_formula}
-
--- ---- differences and sums within a limit
-
-pub IsWithin-difference : (limit : ℕ) (s t : Linear) → weight s + weight t < limit → IsWithin limit (difference_of s t)
-IsWithin-difference limit s t h = IsWithin-weight limit (difference_of s t) (omega (arith, weight-difference_of s t))
 
 -- ---- a guard
 
@@ -124,39 +120,19 @@ stepped_light Flag up v = omega arith
 pub step_named : (kind : CellKind) (step : Direction) → step.cell < 16 → (v : ℕ) → (step.cell < 16) × (weight (step_name kind step v) ≤ 2)
 step_named kind step h v = (h, either_light (v == there_variable step.cell) (stepped_name kind step.up v) (variable_of v) (stepped_light kind step.up v) (omega arith))
 
--- ---- flags
-
-with_flag-light : (kind : CellKind) (v : ℕ) (c : Claim) → IsLight c → IsLight (with_flag kind v c)
-with_flag-light Counter v c h = h
-with_flag-light Peak v c h = h
-with_flag-light Flag v c h = ((omega (arith, weight-difference_of (constant_of (pos 0)) (variable_of v)), omega (arith, weight-difference_of (variable_of v) (constant_of (pos 1)))), h)
-
-with_flag-nodes : (kind : CellKind) (v : ℕ) (c : Claim) → nodes_of (with_flag kind v c) ≤ nodes_of c + 4
-with_flag-nodes Counter v c = omega arith
-with_flag-nodes Peak v c = omega arith
-with_flag-nodes Flag v c = omega arith
-
-flags-light : (kinds : List CellKind) (base : ℕ) → IsLight (flags kinds base)
-flags-light [] base = tt
-flags-light (kind ∷ kinds) base = with_flag-light kind base (flags kinds (base + 1)) (flags-light kinds (base + 1))
-
-flags-nodes : (kinds : List CellKind) (base : ℕ) → nodes_of (flags kinds base) ≤ 4 * length kinds + 1
-flags-nodes [] base = omega arith
-flags-nodes (kind ∷ kinds) base = omega (arith, with_flag-nodes kind base (flags kinds (base + 1)), flags-nodes kinds (base + 1))
-
 -- ---- the formulas
 
 pub equal_light : (kinds : List CellKind) (guard : Claim) → IsGuard kinds guard → IsLight (equal_claim kinds guard)
-equal_light kinds guard g = (flags-light kinds 0, light_named (λ v. ⊤) equal_name (guard_variables kinds) equal_named guard g.over.terms)
+equal_light kinds guard g = (with_kinds-light kinds 0 True tt, light_named (λ v. ⊤) equal_name (guard_variables kinds) equal_named guard g.over.terms)
 
 pub equal_nodes : (kinds : List CellKind) (guard : Claim) → IsGuard kinds guard → nodes_of (equal_claim kinds guard) ≤ most_formula
-equal_nodes kinds guard g = omega (arith, flags-nodes kinds 0, nodes-named equal_name guard, g.few, g.over.few)
+equal_nodes kinds guard g = omega (arith, with_kinds-nodes kinds 0 True, nodes-named equal_name guard, g.few, g.over.few)
 
 pub step_light : (kinds : List CellKind) (guard : Claim) (kind : CellKind) (step : Direction) → IsGuard kinds guard → step.cell < 16 → IsLight (step_claim kinds guard kind step)
 step_light kinds guard kind step g h = (
-  (flags-light kinds 0, flags-light kinds 16),
+  (with_kinds-light kinds 0 True tt, with_kinds-light kinds 16 True tt),
   (light_guard (guard_variables kinds) guard g.over.terms, light_named (λ v. step.cell < 16) (step_name kind step) (guard_variables kinds) (step_named kind step h) guard g.over.terms),
 )
 
 pub step_nodes : (kinds : List CellKind) (guard : Claim) (kind : CellKind) (step : Direction) → IsGuard kinds guard → nodes_of (step_claim kinds guard kind step) ≤ most_formula
-step_nodes kinds guard kind step g = omega (arith, flags-nodes kinds 0, flags-nodes kinds 16, nodes-named (step_name kind step) guard, g.few, g.over.few)
+step_nodes kinds guard kind step g = omega (arith, with_kinds-nodes kinds 0 True, with_kinds-nodes kinds 16 True, nodes-named (step_name kind step) guard, g.few, g.over.few)

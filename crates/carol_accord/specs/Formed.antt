@@ -1,38 +1,27 @@
 -- The formulas that are decided: each is true of exactly the stores at which something fails.
-use Rattle.std.specs.Prelude.{ℕ, ◌+◌, ◌-◌, ◌==◌, nat_lt, Bool, true, false, if◌then◌else◌, List, [], ◌∷◌, pos}
+use Rattle.std.specs.Prelude.{ℕ, ◌-◌, ◌==◌, nat_lt, Bool, true, false, if◌then◌else◌, List, pos}
 use Rattle.carol_store.specs.declared.shape.CellKind.{CellKind}
 use Rattle.carol_store.specs.declared.shape.CellKind.TheVariants.{Counter, Peak, Flag}
 use Rattle.carol_store.specs.declared.direction.Direction.{Direction}
-use Rattle.carol_formula.specs.Claim.{Claim, True, Le, And, Not}
+use Rattle.carol_formula.specs.Claim.{Claim, True, And, Not}
 use Rattle.carol_formula.specs.Linear.{Linear, constant_of, variable_of, sum_of, difference_of}
 use Rattle.carol_formula.specs.Named.{named_claim}
+use Rattle.carol_program.specs.Rows.{with_kinds}
 use Rattle.carol_program.specs.Variables.{cell_variable, there_variable}
 
--- ---- flags
-
--- the variable is 0 or 1
-abbrev pub is_flag : ℕ → Claim
-is_flag v = And (Le (difference_of (constant_of (pos 0)) (variable_of v))) (Le (difference_of (variable_of v) (constant_of (pos 1))))
-
-abbrev pub with_flag : CellKind → ℕ → Claim → Claim
-with_flag Flag v claim = And (is_flag v) claim
-with_flag Counter v claim = claim
-with_flag Peak v claim = claim
-
--- each flag is 0 or 1 in the store whose cells have the variables from this one on
-abbrev pub flags : List CellKind → ℕ → Claim
-flags [] base = True
-flags (kind ∷ kinds) base = with_flag kind base (flags kinds (base + 1))
+-- the cells of the store with the variables from this one on are what cells of these kinds may hold
+abbrev pub stored : List CellKind → ℕ → Claim
+stored kinds base = with_kinds kinds base True
 
 -- ---- two equal stores
 
 -- a cell is that of the store that is read, in both stores
 abbrev pub equal_name : ℕ → Linear
-equal_name v = if nat_lt v 16 then variable_of v else variable_of (v - 16)
+equal_name v = if nat_lt v (there_variable 0) then variable_of v else variable_of (v - there_variable 0)
 
 -- the stores are equal, and the guard is false of them
 abbrev pub equal_claim : List CellKind → Claim → Claim
-equal_claim kinds guard = And (flags kinds (cell_variable 0)) (Not (named_claim equal_name guard))
+equal_claim kinds guard = And (stored kinds (cell_variable 0)) (Not (named_claim equal_name guard))
 
 -- ---- a step
 
@@ -50,7 +39,7 @@ step_name kind direction v = if v == there_variable direction.cell then stepped_
 -- the guard is true of two stores, and false where the cells are what the naming says
 abbrev pub after_claim : List CellKind → Claim → (ℕ → Linear) → Claim
 after_claim kinds guard name =
-    And (And (flags kinds (cell_variable 0)) (flags kinds (there_variable 0)))
+    And (And (stored kinds (cell_variable 0)) (stored kinds (there_variable 0)))
     (And guard (Not (named_claim name guard)))
 
 -- so it is after a step in the global store, of a cell of this kind

@@ -1,56 +1,23 @@
-ghost use Rattle.std.specs.Prelude.{◌≡◌, ◌≢◌, ◌+◌, ◌<◌, ◌^◌, Err, Ok, length, IfOk};
+ghost use Rattle.std.specs.Prelude.{◌≡◌, ◌+◌, ◌<◌, ◌^◌, length, IfOk};
 ghost use Rattle.carol_formula.specs.Tree.{claim_of};
-ghost use Rattle.carol_accord.specs.Formed.{is_flag, with_flag, flags, equal_claim, step_claim};
+ghost use Rattle.carol_program.specs.Limits.{most_cells};
+ghost use Rattle.carol_accord.specs.Formed.{stored, equal_claim, step_claim};
 ghost use Rattle.carol_accord.specs.Parts.{IsGuard};
 
 use crate::names::{EqualNames, StepNames};
-use carol_formula::{Formula, Term, TermError, Variable, renamed};
+use carol_formula::{Boxed, Formula, renamed};
+use carol_program::{FIRST_THERE, with_kinds};
 use carol_store::{CellKind, Direction};
 use std::alloc::{AllocError, Global};
 
-/// The term, which isn't too wide.
-pub(crate) fn narrow(made: Result<Term, TermError>) -> Result<Term, AllocError>
-    requires { made ≢ Err TermError.TooWide }
-    ensures { IfOk result (λ t. made ≡ Ok t) }
-{
-    match made {
-        Ok(term) => Ok(term),
-        Err(TermError::NoMemory) => Err(AllocError),
-        Err(TermError::TooWide) => unreachable!(),
-    }
-}
-
-// The variable is 0 or 1.
-fn is_flag(alloc: Global, v: u32) -> Result<Formula, AllocError>
-    ensures { IfOk result (λ f. claim_of f ≡ is_flag v) }
-{
-    let flag = Term::variable(alloc, Variable(v))?;
-    let least = narrow(Term::constant(alloc, 0).sub(&flag))?;
-    let most = narrow(flag.sub(&Term::constant(alloc, 1)))?;
-    Formula::and(alloc, Formula::Le(least), Formula::Le(most))
-}
-
-// What is said of the cell with this variable, and the rest.
-fn with_flag(alloc: Global, kind: CellKind, v: u32, rest: Formula) -> Result<Formula, AllocError>
-    ensures { IfOk result (λ f. claim_of f ≡ with_flag kind v (claim_of rest)) }
-{
-    if matches!(kind, CellKind::Flag) {
-        let flag = is_flag(alloc, v)?;
-        return Formula::and(alloc, flag, rest);
-    }
-    Ok(rest)
-}
-
-// Each flag is 0 or 1 in the store whose cells have the variables from `base` on.
-fn flags(alloc: Global, kinds: &[CellKind], base: u32) -> Result<Formula, AllocError>
+// The cells of the store with the variables from `base` on are what cells of these kinds may hold.
+fn stored(alloc: Global, kinds: &[CellKind], base: u32) -> Result<Formula, AllocError>
     requires { base + length kinds.now < 2 ^ 32 }
-    ensures { IfOk result (λ f. claim_of f ≡ flags kinds.now base) }
+    ensures { IfOk result (λ f. claim_of f ≡ stored kinds.now base) }
 {
-    let Some((kind, more)) = kinds.split_first() else {
-        return Ok(Formula::True);
-    };
-    let rest = flags(alloc, more, base + 1)?;
-    with_flag(alloc, *kind, base, rest)
+    let nothing = Boxed::new(alloc, Formula::True)?;
+    let stored = with_kinds(alloc, kinds, base, nothing)?;
+    Ok(stored.into_inner())
 }
 
 /// The stores are equal, and the guard is false of them.
@@ -62,7 +29,7 @@ pub(crate) fn equal_formula(
     requires { IsGuard kinds.now (claim_of guard.now) }
     ensures { IfOk result (λ f. claim_of f ≡ equal_claim kinds.now (claim_of guard.now)) }
 {
-    let stores = flags(alloc, kinds, 0)?;
+    let stores = stored(alloc, kinds, 0)?;
     let holds = renamed(alloc, guard, &EqualNames)?;
     let fails = Formula::not(alloc, holds)?;
     Formula::and(alloc, stores, fails)
@@ -78,12 +45,12 @@ pub(crate) fn step_formula(
     direction: Direction,
 ) -> Result<Formula, AllocError>
     requires guard { IsGuard kinds.now (claim_of guard.now) }
-    requires cell { direction.cell < 16 }
+    requires cell { direction.cell < most_cells }
     ensures { IfOk result (λ f. claim_of f
         ≡ step_claim kinds.now (claim_of guard.now) kind direction) }
 {
-    let here = flags(alloc, kinds, 0)?;
-    let there = flags(alloc, kinds, 16)?;
+    let here = stored(alloc, kinds, 0)?;
+    let there = stored(alloc, kinds, FIRST_THERE)?;
     let stores = Formula::and(alloc, here, there)?;
     let before = guard.copy(alloc)?;
     let after = renamed(alloc, guard, &StepNames { kind, direction })?;

@@ -1,8 +1,8 @@
-ghost use Rattle.std.specs.Prelude.{◌≡◌, IfOk};
+ghost use Rattle.std.specs.Prelude.{◌≡◌, ◌≢◌, Err, Ok, IfOk};
 ghost use Rattle.carol_accord.specs.Formed.{stepped_name};
 
-use crate::formulas::narrow;
-use carol_formula::{Naming, Term, Variable};
+use carol_formula::{Naming, Term, TermError, Variable};
+use carol_program::FIRST_THERE;
 use carol_store::{CellKind, Direction};
 use std::alloc::{AllocError, Global};
 
@@ -19,10 +19,10 @@ impl Naming for EqualNames {
     ghost can_name = { λ n v. ⊤ };
 
     fn name(&self, alloc: Global, v: Variable) -> Result<Term, AllocError> {
-        if v.0 < 16 {
+        if v.0 < FIRST_THERE {
             Term::variable(alloc, v)
         } else {
-            Term::variable(alloc, Variable(v.0 - 16))
+            Term::variable(alloc, Variable(v.0 - FIRST_THERE))
         }
     }
 }
@@ -36,18 +36,31 @@ pub(crate) struct StepNames {
 
 impl Naming for StepNames {
     ghost use Rattle.std.specs.Prelude.{◌<◌};
+    ghost use Rattle.carol_program.specs.Limits.{most_cells};
     ghost use Rattle.carol_accord.specs.Formed.{step_name};
 
     ghost name_of = { λ n v. step_name n.kind n.direction v };
 
-    ghost can_name = { λ n v. n.direction.cell < 16 };
+    ghost can_name = { λ n v. n.direction.cell < most_cells };
 
     fn name(&self, alloc: Global, v: Variable) -> Result<Term, AllocError> {
-        if v.0 == 16 + self.direction.cell {
+        if v.0 == FIRST_THERE + self.direction.cell {
             stepped_name(alloc, self.kind, self.direction.up, v)
         } else {
             Term::variable(alloc, v)
         }
+    }
+}
+
+// The term, which isn't too wide.
+fn narrow(made: Result<Term, TermError>) -> Result<Term, AllocError>
+    requires { made ≢ Err TermError.TooWide }
+    ensures { IfOk result (λ t. made ≡ Ok t) }
+{
+    match made {
+        Ok(term) => Ok(term),
+        Err(TermError::NoMemory) => Err(AllocError),
+        Err(TermError::TooWide) => unreachable!(),
     }
 }
 

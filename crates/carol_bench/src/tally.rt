@@ -15,17 +15,7 @@ impl Collector for Tally {
 
     fn take(&mut self, _alloc: Global, _place: Place, formula: Formula) -> Result<(), AllocError> {
         self.obligations = self.obligations.saturating_add(1);
-        self.nodes = self.nodes.saturating_add(nodes(&formula));
+        self.nodes = self.nodes.saturating_add(u64::from(formula.nodes()));
         Ok(())
-    }
-}
-
-fn nodes(formula: &Formula) -> u64 {
-    match formula {
-        Formula::And(left, right) | Formula::Or(left, right) => nodes(left.get())
-            .saturating_add(nodes(right.get()))
-            .saturating_add(1),
-        Formula::Not(inner) => nodes(inner.get()).saturating_add(1),
-        _ => 1,
     }
 }

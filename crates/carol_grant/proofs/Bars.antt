@@ -5,15 +5,16 @@ use Rattle.std.proofs.lemmas.Bool.{cases_eq, eqb-true, false≢true, not-false}
 use Rattle.carol_store.specs.declared.direction.Direction.{Direction}
 use Rattle.carol_store.specs.declared.effect.Atom.{Atom}
 use Rattle.carol_store.specs.Directions.{directions}
-use Rattle.carol_program.specs.Accords.{Accords, entry_of}
+use Rattle.carol_program.specs.Accords.{Accords, AreWays, entry_of}
 use Rattle.carol_program.specs.Admitting.{admits, admits_all, is_yes}
+use Rattle.carol_program.proofs.Directions.{directions_are_ways}
 use Rattle.carol_grant.specs.declared.row.Row.{Row}
 use Rattle.carol_grant.specs.declared.tally.Tally.{Tally}
-use Rattle.carol_grant.specs.Bars.{AreWays, is_bar}
+use Rattle.carol_grant.specs.Bars.{is_bar}
 use Rattle.carol_grant.specs.Counts.{count_row, count_rows}
 use Rattle.carol_grant.specs.Kept.{IsRow, lacks_way, lives}
 use Rattle.carol_grant.specs.Tallies.{agrees, is_clear, tally_at}
-use Rattle.carol_grant.proofs.Ways.{AreWays-directions, lacks_way-is}
+use Rattle.carol_grant.proofs.Ways.{lacks_way-is}
 
 -- a way that is not lacking makes no difference
 pub admits_step : (accords : Accords) (guard : ℕ) (d : Direction) (ways : List Direction) → AreWays accords.kinds (d ∷ ways) → lacks_way accords d.cell d.up guard ≡ false → is_yes (entry_of accords guard d.cell d.up) ≡ true
@@ -103,7 +104,7 @@ clear_admits accords row (d ∷ ways) g is are clear granted =
 
 pub clear-none : (accords : Accords) (row : Row) (effect : List Atom) (g : ℕ) → IsRow accords row → is_clear row.tally (directions accords.kinds effect) ≡ true → is_bar accords row.live effect g ≡ false
 clear-none accords row effect g is clear =
-    no_bar (get_or row.live g false) (admits accords g effect) (clear_admits accords row (directions accords.kinds effect) g is (AreWays-directions accords.kinds effect) clear)
+    no_bar (get_or row.live g false) (admits accords g effect) (clear_admits accords row (directions accords.kinds effect) g is (directions_are_ways accords.kinds effect) clear)
   where
     no_bar : (live admitted : Bool) → (live ≡ true → admitted ≡ true) → (live && not admitted) ≡ false
     no_bar true admitted h = rw (h refl) refl

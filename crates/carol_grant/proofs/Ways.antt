@@ -1,19 +1,16 @@
 -- Which ways there are.
 use Rattle.std.proofs.Common.{◌≡◌, ℕ, ◌<◌, ◌≤◌, zero, suc, Bool, true, false, ◌&&◌, List, [], ◌∷◌, length, ℤ, Option, Some, None, refl, arith}
 use Rattle.std.specs.Prelude.{slice_get}
-use Rattle.std.specs.List.{cons_option}
-use Rattle.std.specs.Option.{option_map, option_and_then}
 use Rattle.std.proofs.lemmas.Bool.{false≢true}
 use Rattle.std.proofs.lemmas.Option.{slice_get_past}
 use Rattle.carol_store.specs.declared.shape.CellKind.{CellKind}
-use Rattle.carol_store.specs.declared.shape.CellKind.TheVariants.{Counter, Peak, Flag}
 use Rattle.carol_store.specs.declared.short_list.TheConstants.{MOST_CELLS}
 use Rattle.carol_store.specs.declared.direction.Direction.{Direction}
 use Rattle.carol_store.specs.declared.effect.Atom.{Atom}
 use Rattle.carol_store.specs.Directions.{directions}
-use Rattle.carol_store.specs.Kinds.{can_go, way}
-use Rattle.carol_program.specs.Accords.{Accords, HasWay}
-use Rattle.carol_grant.specs.Bars.{AreWays}
+use Rattle.carol_store.specs.Kinds.{can_go}
+use Rattle.carol_program.specs.Accords.{Accords, AreWays, HasWay}
+use Rattle.carol_program.proofs.Directions.{directions_are_ways}
 use Rattle.carol_grant.specs.Counts.{count_rows}
 use Rattle.carol_grant.specs.Grants.{lacks}
 use Rattle.carol_grant.specs.Kept.{goes, lacks_way}
@@ -53,35 +50,11 @@ count_lacks accords cell up rows h =
 pub lacks_way-is : (accords : Accords) (cell : ℕ) (up : Bool) (guard : ℕ) → HasWay accords.kinds cell up → lacks_way accords cell up guard ≡ lacks accords cell up guard
 lacks_way-is accords cell up guard h = rw (HasWay-goes accords.kinds cell up h) refl
 
--- a direction of an effect is a way of the shape
-way_of-kind : (kind : CellKind) (value : ℤ) (up : Bool) → way kind value ≡ Some up → can_go kind up ≡ true
-way_of-kind Counter value true h = refl
-way_of-kind Counter value false h = refl
-way_of-kind Peak value true h = refl
-way_of-kind Peak value false h = absurd (cc)
-way_of-kind Flag value true h = refl
-way_of-kind Flag value false h = absurd (cc)
-
-way_of-cell : (kinds : List CellKind) (cell : ℕ) (value : ℤ) (up : Bool) → option_and_then (λ kind. way kind value) (slice_get kinds cell) ≡ Some up → HasWay kinds cell up
-way_of-cell [] cell value up h = absurd (cc)
-way_of-cell (kind ∷ kinds) zero value up h = way_of-kind kind value up h
-way_of-cell (kind ∷ kinds) (suc cell) value up h = way_of-cell kinds cell value up h
-
-with_way : (kinds : List CellKind) (cell : ℕ) (up : Option Bool) (ways : List Direction) → ((u : Bool) → up ≡ Some u → HasWay kinds cell u) → AreWays kinds ways → AreWays kinds (cons_option (option_map (λ u. record { cell = cell; up = u }) up) ways)
-with_way kinds cell None ways here are = are
-with_way kinds cell (Some u) ways here are = (here u refl, are)
-
-pub AreWays-directions : (kinds : List CellKind) (effect : List Atom) → AreWays kinds (directions kinds effect)
-AreWays-directions kinds [] = tt
-AreWays-directions kinds (atom ∷ atoms) =
-    with_way kinds atom.cell (option_and_then (λ kind. way kind atom.value) (slice_get kinds atom.cell)) (directions kinds atoms)
-    (λ up h. way_of-cell kinds atom.cell atom.value up h) (AreWays-directions kinds atoms)
-
--- so a tally has a number for it
+-- a tally has a number for each way of the shape
 AreWays-cells : (kinds : List CellKind) (ways : List Direction) → length kinds ≤ MOST_CELLS → AreWays kinds ways → AreCells ways
 AreWays-cells kinds [] few are = tt
 AreWays-cells kinds (d ∷ ways) few are =
     (omega (arith, HasWay-inside kinds d.cell d.up are.0), AreWays-cells kinds ways few are.1)
 
 pub AreCells-directions : (kinds : List CellKind) (effect : List Atom) → length kinds ≤ MOST_CELLS → AreCells (directions kinds effect)
-AreCells-directions kinds effect few = AreWays-cells kinds (directions kinds effect) few (AreWays-directions kinds effect)
+AreCells-directions kinds effect few = AreWays-cells kinds (directions kinds effect) few (directions_are_ways kinds effect)

@@ -1,15 +1,8 @@
 -- How a bar is looked for, row by row.
 use Rattle.std.specs.Prelude.{◌≡◌, ℕ, ◌<◌, Bool, true, false, not, ◌&&◌, List, [], ◌∷◌, Option, Some, None, get_or}
-use Rattle.carol_store.specs.declared.shape.CellKind.{CellKind}
-use Rattle.carol_store.specs.declared.direction.Direction.{Direction}
 use Rattle.carol_store.specs.declared.effect.Atom.{Atom}
-use Rattle.carol_program.specs.Accords.{Accords, HasWay}
+use Rattle.carol_program.specs.Accords.{Accords}
 use Rattle.carol_program.specs.Admitting.{admits}
-
--- the shape has each of the ways
-abbrev pub AreWays : List CellKind → List Direction → Type 0
-AreWays kinds [] = Unit {0}
-AreWays kinds (way ∷ ways) = HasWay kinds way.cell way.up × AreWays kinds ways
 
 -- the guard is granted in the row, and its accord lacks the effect
 abbrev pub is_bar : Accords → List Bool → List Atom → ℕ → Bool

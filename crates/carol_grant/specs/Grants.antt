@@ -1,9 +1,10 @@
 -- The live grants of guards to sessions, how a grant and a close change them, and which of them
 -- bars an effect.
-use Rattle.std.specs.Prelude.{◌≡◌, ◌≢◌, ◌⊎◌, ℕ, ◌<◌, ◌==◌, Bool, true, false, not, ◌&&◌, ◌||◌, List, [], length, Option, Some, None, get_or}
+use Rattle.std.specs.Prelude.{◌≡◌, ◌≢◌, ℕ, ◌==◌, Bool, true, false, not, ◌&&◌, ◌||◌, List, [], length, Option, Some, None, get_or}
 use Rattle.carol_store.specs.declared.effect.Atom.{Atom}
 use Rattle.carol_program.specs.Accords.{Accords, entry_of}
 use Rattle.carol_program.specs.Admitting.{admits, is_yes}
+use Rattle.carol_program.specs.Order.{IsBefore}
 use Rattle.carol_grant.specs.Counts.{count_rows}
 
 -- the accords of the guards, and for each session and guard whether the guard is granted to it
@@ -35,10 +36,6 @@ lacks accords cell up guard = not (is_yes (entry_of accords guard cell up))
 -- how many live grants there are whose accord lacks the way
 abbrev pub bars : Grants → ℕ → Bool → ℕ
 bars h cell up = count_rows (lacks h.accords cell up) h.live
-
--- the first session and guard come before the second ones
-abbrev pub IsBefore : ℕ → ℕ → ℕ → ℕ → Type 0
-IsBefore s g session guard = (s < session) ⊎ ((s ≡ session) × (g < guard))
 
 -- the lowest live grant of another session whose guard does not pass the test
 pub record IsLowestBar

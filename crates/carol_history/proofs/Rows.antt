@@ -7,6 +7,7 @@ use Rattle.carol_store.specs.declared.effect.Atom.{Atom}
 use Rattle.carol_formula.specs.Claim.{Claim}
 use Rattle.carol_formula.specs.Claim as claim
 use Rattle.carol_program.specs.Bodies as body
+use Rattle.carol_program.specs.Order.{IsBefore}
 use Rattle.carol_program.specs.Rules.{OpRules, Rules}
 use Rattle.carol_program.specs.declared.scenes.Command.{Command}
 use Rattle.carol_program.specs.declared.scenes.Scene.{Scene}
@@ -19,7 +20,7 @@ use Rattle.carol_event.specs.declared.event.Event.TheVariants.{Grant, Query, Iss
 use Rattle.carol_reading.specs.declared.outcome.Outcome.TheVariants as outcome
 use Rattle.carol_history.specs.Acts.{Next, UnderWay, acts, attempt, is_live, marks, place}
 use Rattle.carol_history.specs.Journals.{global, local}
-use Rattle.carol_history.specs.Legal.{Admits, IsBefore}
+use Rattle.carol_history.specs.Legal.{Admits}
 use Rattle.carol_history.specs.Results.{result}
 use Rattle.carol_history.specs.Runs.{Run}
 use Rattle.carol_history.proofs.Named.{live_named}

@@ -3,6 +3,7 @@ use Rattle.std.proofs.Common.{◌≡◌, ℕ, ◌<◌, true, false, List, ℤ, s
 use Rattle.std.proofs.lemmas.Bool.{cases_lt}
 use Rattle.carol_store.specs.declared.effect.Atom.{Atom}
 use Rattle.carol_store.specs.Kinds.{CellValue}
+use Rattle.carol_program.specs.Order.{IsBefore}
 use Rattle.carol_program.specs.Rules.{Rules}
 use Rattle.carol_program.specs.declared.scenes.Scene.{Scene}
 use Rattle.carol_program.specs.declared.scenes.SessionPlan.{SessionPlan}
@@ -13,7 +14,7 @@ use Rattle.carol_event.specs.declared.event.Event.TheVariants.{Grant, Query, Iss
 use Rattle.carol_history.specs.Acts.{Next, is_live}
 use Rattle.carol_history.specs.Forced.{Forced, IsFetch}
 use Rattle.carol_history.specs.Journals.{effect_at, is_held, local}
-use Rattle.carol_history.specs.Legal.{Admits, IsBefore, IsSettled, Lacks, MayGrant, MayIssue, MayQuery, MayRefuseBarred, MayRefuseBehind}
+use Rattle.carol_history.specs.Legal.{Admits, IsSettled, Lacks, MayGrant, MayIssue, MayQuery, MayRefuseBarred, MayRefuseBehind}
 use Rattle.carol_history.specs.Links.{is_linked}
 use Rattle.carol_history.proofs.Determined.{same_next, same_plan}
 

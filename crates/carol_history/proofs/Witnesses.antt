@@ -15,6 +15,7 @@ use Rattle.carol_formula.specs.Claim.{Claim, And, Eq, Le, is_at_most_zero}
 use Rattle.carol_formula.specs.Linear.{constant_of}
 use Rattle.carol_program.specs.Bodies as body
 use Rattle.carol_program.specs.Bodies.{Body}
+use Rattle.carol_program.specs.Order.{IsBefore}
 use Rattle.carol_program.specs.Preserving.{Guards}
 use Rattle.carol_program.specs.Rules.{OpRules, Rules}
 use Rattle.carol_program.specs.declared.scenes.Command.{Command}
@@ -30,7 +31,7 @@ use Rattle.carol_history.specs.Acts.{Next, acts, attempt, is_live, marks, place}
 use Rattle.carol_history.specs.Bounds.{most_events}
 use Rattle.carol_history.specs.Forced.{Forced}
 use Rattle.carol_history.specs.Journals.{global, is_held, local}
-use Rattle.carol_history.specs.Legal.{Admits, IsBefore, IsSettled, Legal}
+use Rattle.carol_history.specs.Legal.{Admits, IsSettled, Legal}
 use Rattle.carol_history.specs.Links.{is_linked}
 use Rattle.carol_history.specs.Results.{result}
 use Rattle.carol_history.specs.Runs.{Run}

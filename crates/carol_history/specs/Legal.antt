@@ -3,6 +3,7 @@ use Rattle.std.specs.Prelude.{◌≡◌, ◌≢◌, ◌⊎◌, ℕ, ◌<◌, tru
 use Rattle.carol_store.specs.declared.effect.Atom.{Atom}
 use Rattle.carol_store.specs.Kinds.{CellValue}
 use Rattle.carol_formula.specs.Claim.{Claim}
+use Rattle.carol_program.specs.Order.{IsBefore}
 use Rattle.carol_program.specs.Preserving.{Within}
 use Rattle.carol_program.specs.Rules.{Rules}
 use Rattle.carol_program.specs.declared.scenes.Scene.{Scene}
@@ -58,10 +59,6 @@ pub record MayIssue
   pub next : Next p scene session (Issued effect) past
   pub number : entry ≡ length (journal past)
   pub free : IsFree p session effect past
-
--- the first session and guard come before the second ones
-abbrev pub IsBefore : ℕ → ℕ → ℕ → ℕ → Type 0
-IsBefore s g session guard = (s < session) ⊎ ((s ≡ session) × (g < guard))
 
 -- an effect is next, and this is the lowest live grant of another session that does not admit it
 pub record MayRefuseBarred

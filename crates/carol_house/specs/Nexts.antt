@@ -4,6 +4,7 @@ use Rattle.carol_store.specs.declared.effect.Atom.{Atom}
 use Rattle.carol_store.specs.Stores.{IsStore}
 use Rattle.carol_program.specs.Accords.{Accords}
 use Rattle.carol_program.specs.Admitting.{admits}
+use Rattle.carol_program.specs.Order.{IsBefore}
 use Rattle.carol_program.specs.Rules.{Rules}
 use Rattle.carol_program.specs.declared.scenes.Scene.{Scene}
 use Rattle.carol_program.specs.declared.scenes.SessionPlan.{SessionPlan}
@@ -12,7 +13,7 @@ use Rattle.carol_event.specs.declared.event.Event.{Event}
 use Rattle.carol_history.specs.Acts.{Next, UnderWay, acts, is_live}
 use Rattle.carol_history.specs.Forced.{Forced}
 use Rattle.carol_history.specs.Journals.{journal, effect_at, is_held}
-use Rattle.carol_history.specs.Legal.{Admits, IsBefore, IsFree, IsSettled, Legal}
+use Rattle.carol_history.specs.Legal.{Admits, IsFree, IsSettled, Legal}
 use Rattle.carol_history.specs.Links.{is_linked}
 use Rattle.carol_history.specs.Scripts.{HoldsAllBelow}
 use Rattle.carol_holding.specs.Held.{holds}

@@ -122,7 +122,8 @@ fn member(before: u32, members: &[Ident], word: &Ident, rest: &[Ident]) -> Named
 // What the rest of a path names in a record, whose first cell has this number.
 fn field(before: u32, fields: &[FieldDecl], word: &Ident, rest: &[Ident]) -> Named
     requires { before + length fields.now ≤ most_numbers }
-    ensures named { result ≡ field before fields.now (place_of word.now.word (map (λ f. f.name) fields.now)) (words rest.now) }
+    ensures named { result ≡ field before fields.now
+        (place_of word.now.word (map (λ f. f.name) fields.now)) (words rest.now) }
     ensures numbered { IsNumbered result }
 {
     let Some(place) = place_of(fields, word.word.bytes()) else {
@@ -175,7 +176,8 @@ fn whole(before: u32, declaration: &CellDecl) -> Named
 
 // The names that items declare, at the end of those before.
 fn push_all<'a, T: Declares>(names: &mut Vec<&'a Ident>, items: &'a [T]) -> Result<(), AllocError>
-    ensures { OnOk result (map (λ i. i.now) names.new.items ≡ map (λ i. i.now) names.old.items ++ map T.ident items.entry.now) }
+    ensures { OnOk result (map (λ i. i.now) names.new.items
+        ≡ map (λ i. i.now) names.old.items ++ map T.ident items.entry.now) }
 {
     for item in items {
         names.push(item.ident())?;
@@ -185,7 +187,8 @@ fn push_all<'a, T: Declares>(names: &mut Vec<&'a Ident>, items: &'a [T]) -> Resu
 
 // The names by which a declaration's cells are declared, at the end of those before.
 fn push_names<'a>(names: &mut Vec<&'a Ident>, declaration: &'a CellDecl) -> Result<(), AllocError>
-    ensures { OnOk result (map (λ i. i.now) names.new.items ≡ map (λ i. i.now) names.old.items ++ cell_names declaration.entry.now) }
+    ensures { OnOk result (map (λ i. i.now) names.new.items
+        ≡ map (λ i. i.now) names.old.items ++ cell_names declaration.entry.now) }
 {
     match declaration {
         CellDecl::Field(field) => {
@@ -217,7 +220,8 @@ fn note_most_cells(
     finder: &mut Finder,
     declarations: &[CellDecl],
 ) -> Result<(), AllocError>
-    ensures { OnOk result (finder.new ≡ earliest finder.old (too_many MOST_CELLS (flat_map cell_names declarations.now))) }
+    ensures { OnOk result (finder.new
+        ≡ earliest finder.old (too_many MOST_CELLS (flat_map cell_names declarations.now))) }
 {
     let mut names = Vec::new(alloc);
     for declaration in declarations {
@@ -232,7 +236,8 @@ fn note_all_members(
     finder: &mut Finder,
     declarations: &[CellDecl],
 ) -> Result<(), AllocError>
-    ensures { OnOk result (finder.new ≡ earliest finder.old (flat_map member_faults declarations.now)) }
+    ensures { OnOk result (finder.new
+        ≡ earliest finder.old (flat_map member_faults declarations.now)) }
 {
     for declaration in declarations {
         note_members(alloc, finder, declaration)?;

@@ -110,7 +110,8 @@ impl<'a> Words<'a> {
     // Adds the word, unless it is there; tells whether it was not.
     fn add(&mut self, word: &'a [u8]) -> Result<bool, AllocError>
         ensures fresh { IfOk result (λ fresh. fresh ≡ not (is_among word.entry.now self.old)) }
-        ensures added { OnOk result (self.new ≡ (if is_among word.entry.now self.old then self.old else self.old ++ word.entry.now ∷ [])) }
+        ensures added { OnOk result (self.new ≡ (if is_among word.entry.now self.old
+            then self.old else self.old ++ word.entry.now ∷ [])) }
     {
         let fresh = self.set.insert(word)?;
         Ok(fresh)
@@ -124,8 +125,11 @@ fn note_again<'a>(
     seen: &mut Words<'a>,
     name: &'a Ident,
 ) -> Result<(), AllocError>
-    ensures faults { OnOk result (finder.new ≡ earliest finder.old (if is_among name.entry.now.word seen.old then fault_of NameKind.Twice name.entry.now ∷ [] else [])) }
-    ensures seen { OnOk result (seen.new ≡ (if is_among name.entry.now.word seen.old then seen.old else seen.old ++ name.entry.now.word ∷ [])) }
+    ensures faults { OnOk result (finder.new
+        ≡ earliest finder.old (if is_among name.entry.now.word seen.old
+        then fault_of NameKind.Twice name.entry.now ∷ [] else [])) }
+    ensures seen { OnOk result (seen.new ≡ (if is_among name.entry.now.word seen.old
+        then seen.old else seen.old ++ name.entry.now.word ∷ [])) }
 {
     if seen.add(name.word.bytes())? {
         return Ok(());
@@ -155,7 +159,8 @@ pub fn note_too_many<T: Declares>(
     most: usize,
     items: &[T],
 ) -> Result<(), AllocError>
-    ensures { OnOk result (finder.new ≡ earliest finder.old (too_many most (map T.ident items.now))) }
+    ensures { OnOk result (finder.new
+        ≡ earliest finder.old (too_many most (map T.ident items.now))) }
 {
     if let Some(item) = at(items, most) {
         finder.note_name(alloc, NameKind::TooMany, item.ident())?;

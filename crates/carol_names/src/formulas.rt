@@ -21,7 +21,9 @@ use std::alloc::{AllocError, Global};
 fn less(alloc: Global, one: &Term, other: &Term, strict: bool) -> Result<Term, AllocError>
     requires one { IsBounded most_sum one.now }
     requires other { IsBounded most_sum other.now }
-    ensures { IfOk result (λ t. t ≡ (if strict then sum_of (difference_of one.now other.now) (constant_of (pos 1)) else difference_of one.now other.now)) }
+    ensures { IfOk result (λ t. t
+        ≡ (if strict then sum_of (difference_of one.now other.now) (constant_of (pos 1))
+        else difference_of one.now other.now)) }
 {
     let difference = minus(one, other)?;
     if !strict {
@@ -93,8 +95,10 @@ fn comparison<G: Ground>(
     requires right { shape.IsTerm right.now }
     requires sized_left { IsShortTerm left.now }
     requires sized_right { IsShortTerm right.now }
-    ensures faults { OnOk result (finder.new ≡ earliest finder.old (formula_faults (G.look place.now) (tree.Compare left.now sign right.now))) }
-    ensures meaning { IfOk result (λ f. claim_of f ≡ formula_meaning (G.look place.now) (tree.Compare left.now sign right.now)) }
+    ensures faults { OnOk result (finder.new ≡ earliest finder.old
+        (formula_faults (G.look place.now) (tree.Compare left.now sign right.now))) }
+    ensures meaning { IfOk result (λ f. claim_of f
+        ≡ formula_meaning (G.look place.now) (tree.Compare left.now sign right.now)) }
 {
     let first = values(place, alloc, finder, left)?;
     let second = values(place, alloc, finder, right)?;
@@ -112,8 +116,10 @@ pub fn formula<G: Ground>(
 ) -> Result<Formula, AllocError>
     requires shape { shape.IsFormula (formula_tree formula.now) }
     requires sized { IsShortFormula (formula_tree formula.now) }
-    ensures faults { OnOk result (finder.new ≡ earliest finder.old (formula_faults (G.look place.now) (formula_tree formula.now))) }
-    ensures meaning { IfOk result (λ f. claim_of f ≡ formula_meaning (G.look place.now) (formula_tree formula.now)) }
+    ensures faults { OnOk result (finder.new ≡ earliest finder.old
+        (formula_faults (G.look place.now) (formula_tree formula.now))) }
+    ensures meaning { IfOk result (λ f. claim_of f
+        ≡ formula_meaning (G.look place.now) (formula_tree formula.now)) }
 {
     match formula {
         FormulaDecl::True => Ok(Formula::True),

@@ -20,7 +20,8 @@ pub trait Ground {
         finder: &mut Finder,
         value: &ValueDecl,
     ) -> Result<Option<Term>, AllocError>
-        ensures faults { OnOk result (finder.new ≡ earliest finder.old (found_faults ((look self.now).value value.now))) }
+        ensures faults { OnOk result (finder.new
+            ≡ earliest finder.old (found_faults ((look self.now).value value.now))) }
         ensures worth { IfOk result (λ t. t ≡ worth_of ((look self.now).value value.now)) }
         ensures bounded { IfOk result (λ t. IfSome t (IsBounded most_value)) };
 }

@@ -42,7 +42,8 @@ fn product<G: Ground>(
     product: &ProductDecl,
 ) -> Result<Option<Term>, AllocError>
     requires { shape.IsProduct product.now }
-    ensures faults { OnOk result (finder.new ≡ earliest finder.old (product_faults (G.look place.now) product.now)) }
+    ensures faults { OnOk result (finder.new
+        ≡ earliest finder.old (product_faults (G.look place.now) product.now)) }
     ensures worth { IfOk result (λ t. t ≡ product_worth (G.look place.now) product.now) }
     ensures bounded { IfOk result (λ t. IfSome t (IsBounded most_product)) }
 {
@@ -82,8 +83,10 @@ fn sum<G: Ground>(
 ) -> Result<Option<Term>, AllocError>
     requires shape { AllByRecursion shape.IsProduct products.now }
     requires sized { length products.now ≤ 256 }
-    ensures faults { OnOk result (finder.new ≡ earliest finder.old (flat_map (product_faults (G.look place.now)) products.now)) }
-    ensures worth { IfOk result (λ t. t ≡ sum_after (G.look place.now) (Some (constant_of (pos 0))) products.now) }
+    ensures faults { OnOk result (finder.new
+        ≡ earliest finder.old (flat_map (product_faults (G.look place.now)) products.now)) }
+    ensures worth { IfOk result (λ t. t
+        ≡ sum_after (G.look place.now) (Some (constant_of (pos 0))) products.now) }
     ensures bounded { IfOk result (λ t. IfSome t (IsBounded most_sum)) }
 {
     let mut sum = Some(Term::constant(alloc, 0));
@@ -103,7 +106,8 @@ pub fn values<G: Ground>(
 ) -> Result<Option<Term>, AllocError>
     requires shape { shape.IsTerm term.now }
     requires sized { IsShortTerm term.now }
-    ensures faults { OnOk result (finder.new ≡ earliest finder.old (values_faults (G.look place.now) term.now)) }
+    ensures faults { OnOk result (finder.new
+        ≡ earliest finder.old (values_faults (G.look place.now) term.now)) }
     ensures worth { IfOk result (λ t. t ≡ term_worth (G.look place.now) term.now) }
     ensures bounded { IfOk result (λ t. IfSome t (IsBounded most_sum)) }
 {
@@ -158,7 +162,8 @@ pub fn term<G: Ground>(
 ) -> Result<Option<Term>, AllocError>
     requires shape { shape.IsTerm term.now }
     requires sized { IsShortTerm term.now }
-    ensures faults { OnOk result (finder.new ≡ earliest finder.old (term_faults (G.look place.now) term.now)) }
+    ensures faults { OnOk result (finder.new
+        ≡ earliest finder.old (term_faults (G.look place.now) term.now)) }
     ensures worth { IfOk result (λ t. t ≡ term_worth (G.look place.now) term.now) }
 {
     let worth = values(place, alloc, finder, term)?;

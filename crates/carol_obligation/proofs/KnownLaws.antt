@@ -1,15 +1,13 @@
 -- What is known along a way, as its formula says it.
-use Rattle.std.proofs.Common.{◌≡◌, ℕ, zero, suc, ◌+◌, ◌≤◌, Bool, true, false, inl, inr, List, [], ◌∷◌, length, arith, refl}
-use Rattle.std.specs.Prelude.{◌↔◌, ◌⊎◌, ℤ, pos, negsuc, ◌≤ℤ◌, Option, Some, None, IfSome, slice_get}
+use Rattle.std.proofs.Common.{◌≡◌, ℕ, zero, suc, ◌+◌, ◌≤◌, Bool, true, false, List, [], ◌∷◌, length, arith, refl}
+use Rattle.std.specs.Prelude.{◌↔◌, ℤ, Option, Some, None, IfSome, slice_get}
 use Rattle.std.specs.List.{AllByRecursion}
 use Rattle.std.proofs.lemmas.Bool.{false≢true}
-use Rattle.std.proofs.lemmas.Int.{ints}
 use Rattle.carol_store.specs.declared.shape.CellKind.{CellKind}
-use Rattle.carol_store.specs.declared.shape.CellKind.TheVariants.{Counter, Peak, Flag}
-use Rattle.carol_store.specs.Kinds.{MayHold}
 use Rattle.carol_store.specs.Stores.{IsStore}
-use Rattle.carol_formula.specs.Claim.{Claim, True, And, truth}
-use Rattle.carol_formula.specs.Linear.{variable_of, constant_of}
+use Rattle.carol_formula.specs.Claim.{Claim, True, truth}
+use Rattle.carol_program.proofs.Holdings.{with_kinds-say}
+use Rattle.carol_program.specs.Rows.{with_kinds}
 use Rattle.carol_program.specs.Rules.{Rules, OpRules}
 use Rattle.carol_program.specs.Scenes.{MeetsAll}
 use Rattle.carol_program.specs.Variables.{guard_variables, number_in, number_in_two, number_of_args, query_variable, store_at}
@@ -17,11 +15,11 @@ use Rattle.carol_program.specs.WellFormed.{AreRules, AreRefinements, IsFormulaOv
 use Rattle.carol_reading.specs.Rounds.{IsSound, GuardsIn}
 use Rattle.carol_obligation.specs.Ways.{Way, Asks, Puts, Frees, Tests, rounds_of, has_query}
 use Rattle.carol_obligation.specs.Decoded.{round_variable, args_at, TestsGo}
-use Rattle.carol_obligation.specs.Formed.{at_most, with_flags, with_round, guard_at, with_closing, with_all, known_along}
+use Rattle.carol_obligation.specs.Formed.{with_round, guard_at, with_closing, with_all, known_along}
 use Rattle.carol_obligation.proofs.Follows.{AreShaped}
 use Rattle.carol_obligation.proofs.Rounds.{IsClosed, RoundsGo}
-use Rattle.carol_obligation.proofs.Equivalences.{same, both}
-use Rattle.carol_obligation.proofs.TruthForms.{Says, says-so, says-as, says-and, says-at_most, says-test, value_at-variable}
+use Rattle.carol_obligation.proofs.Equivalences.{same, chain, both}
+use Rattle.carol_obligation.proofs.TruthForms.{Says, says-so, says-as, says-and, says-test}
 use Rattle.carol_obligation.proofs.Numbers.{truth-round, truth-guard, truth-param}
 
 pub regrouped : {A B C : Type 0} → ((A × B) × C) ↔ (A × (B × C))
@@ -39,32 +37,11 @@ item-of P (x ∷ xs) (suc i) h = item-of P xs i h.1
 abbrev pub IsKnown : Rules → OpRules → Way → (ℕ → ℤ) → Type 0
 IsKnown p op way f = MeetsAll op.params (args_at (length op.params) f) × TestsGo way f × AreShaped p.shape way f × RoundsGo p way f
 
--- ---- rows of flags
-
-flag-bounds : (z : ℤ) → ((pos 0 ≤ℤ z) × (z ≤ℤ pos 1)) ↔ MayHold Flag z
-flag-bounds z = (between z, ends z)
-  where
-    between : (z : ℤ) → (pos 0 ≤ℤ z) × (z ≤ℤ pos 1) → (z ≡ pos 0) ⊎ (z ≡ pos 1)
-    between (pos zero) h = inl refl
-    between (pos (suc zero)) h = inr refl
-    between (pos (suc (suc n))) h = absurd (omega (arith, ints, h.1))
-    between (negsuc n) h = absurd (omega (arith, ints, h.0))
-
-    ends : (z : ℤ) → (z ≡ pos 0) ⊎ (z ≡ pos 1) → (pos 0 ≤ℤ z) × (z ≤ℤ pos 1)
-    ends z (inl e) = (omega (arith, ints), omega (arith, ints))
-    ends z (inr e) = (omega (arith, ints), omega (arith, ints))
-
 module _ (f : ℕ → ℤ) where
-  flag-says : (v : ℕ) → Says (And (at_most (constant_of (pos 0)) (variable_of v)) (at_most (variable_of v) (constant_of (pos 1)))) f (MayHold Flag (f v))
-  flag-says v = says-so (says-and
-      (says-at_most (constant_of (pos 0)) (variable_of v) f (pos 0) (f v) refl (value_at-variable v f))
-      (says-at_most (variable_of v) (constant_of (pos 1)) f (f v) (pos 1) (value_at-variable v f) refl)) (flag-bounds (f v))
+  -- ---- rows of the cells of a store
 
-  says-flags : (kinds : List CellKind) (base : ℕ) {known : Claim} {P : Type 0} → Says known f P → Says (with_flags kinds base known) f (P × IsStore kinds (store_at kinds base f))
-  says-flags [] base h = says-so h with_nothing
-  says-flags (Flag ∷ kinds) base h = says-so (says-flags kinds (base + 1) (says-and h (flag-says base))) regrouped
-  says-flags (Counter ∷ kinds) base {P = P} h = says-so (says-flags kinds (base + 1) h) (both (same P) (λ s. (tt, s), λ s. s.1))
-  says-flags (Peak ∷ kinds) base {P = P} h = says-so (says-flags kinds (base + 1) h) (both (same P) (λ s. (tt, s), λ s. s.1))
+  says-stored : (kinds : List CellKind) (base : ℕ) {known : Claim} {P : Type 0} → Says known f P → Says (with_kinds kinds base known) f (P × IsStore kinds (store_at kinds base f))
+  says-stored kinds base {known = known} h = record { is = chain (with_kinds-say f kinds base known) (both h.is (same (IsStore kinds (store_at kinds base f)))) }
 
   -- ---- parameters
 
@@ -79,7 +56,7 @@ module _ (f : ℕ → ℤ) where
 module _ (p : Rules) (rules : AreRules p) (f : ℕ → ℤ) where
   pub says-round : (round : ℕ) {known : Claim} {P : Type 0} → Says known f P → Says (with_round p round known) f (P × IsSound p (store_at p.shape (round_variable round 0) f))
   says-round round h = says-so
-      (says-flags f p.shape (round_variable round 0) (says-and h (says-as (truth p.invariant (number_in (store_at p.shape (round_variable round 0) f))) (truth-round f p.shape round p.invariant rules.invariant))))
+      (says-stored f p.shape (round_variable round 0) (says-and h (says-as (truth p.invariant (number_in (store_at p.shape (round_variable round 0) f))) (truth-round f p.shape round p.invariant rules.invariant))))
       (λ s. (s.0.0, record { shaped = s.1; invariant = s.0.1 }), λ s. ((s.0, s.1.invariant), s.1.shaped))
 
   says-closing : (asked : Bool) (round : ℕ) {known : Claim} {P : Type 0} → Says known f P → Says (with_closing p asked round known) f (P × IsClosed p asked (store_at p.shape (round_variable round 0) f))
@@ -90,7 +67,7 @@ module _ (p : Rules) (rules : AreRules p) (f : ℕ → ℤ) where
       Says (guard_at p guard slot round known) f (P × IsStore p.shape (store_at p.shape (query_variable slot 0) f) × GuardsIn guard (store_at p.shape (query_variable slot 0) f) (store_at p.shape (round_variable round 0) f))
   says-guard None over slot round h = record { is = (λ e. absurd (false≢true e), λ s. absurd s.2) }
   says-guard (Some guard) over slot round h = says-so
-      (says-flags f p.shape (query_variable slot 0) (says-and h (says-as (truth guard (number_in_two (store_at p.shape (query_variable slot 0) f) (store_at p.shape (round_variable round 0) f))) (truth-guard f p.shape rules.few_cells slot round guard over))))
+      (says-stored f p.shape (query_variable slot 0) (says-and h (says-as (truth guard (number_in_two (store_at p.shape (query_variable slot 0) f) (store_at p.shape (round_variable round 0) f))) (truth-guard f p.shape rules.few_cells slot round guard over))))
       (λ s. (s.0.0, s.1, s.0.1), λ s. ((s.0, s.2), s.1))
 
   -- ---- a whole way

@@ -6,9 +6,9 @@ use Rattle.std.proofs.lemmas.Nat.{mul-le}
 use Rattle.carol_store.specs.declared.shape.CellKind.{CellKind}
 use Rattle.carol_store.specs.declared.shape.CellKind.TheVariants.{Counter, Peak, Flag}
 use Rattle.carol_formula.specs.Claim.{Claim, True, False, Le, Eq, Ne, And, Or, Not, EachTerm}
-use Rattle.carol_formula.specs.Linear.{Linear, IsWithin, difference_of, variable_of}
+use Rattle.carol_formula.specs.Linear.{Linear, variable_of}
 use Rattle.carol_formula.specs.Weight.{mass, weight}
-use Rattle.carol_formula.proofs.Weights.{weight-difference_of, weight-sum_of, IsWithin-weight}
+use Rattle.carol_formula.proofs.Weights.{weight-sum_of}
 use Rattle.carol_formula.specs.Named.{AllNamed, IsNameable, IsNameableClaim, named_mass, named_weight}
 use Rattle.carol_program.specs.declared.steps.Part.{Part}
 use Rattle.carol_program.specs.Rules.{Rules}
@@ -19,9 +19,6 @@ use Rattle.carol_reading.specs.Readings.{amount_for}
 use Rattle.carol_obligation.specs.Decoded.{round_variable}
 use Rattle.carol_obligation.specs.Formed.{round_name, guard_name, done_name, cell_name, after_name, result_name}
 use Rattle.carol_obligation.specs.Budget.{AreLightParts, amount_limit}
-
-pub IsWithin-difference : (limit : ℕ) (s t : Linear) → weight s + weight t < limit → IsWithin limit (difference_of s t)
-IsWithin-difference limit s t h = IsWithin-weight limit (difference_of s t) (omega (arith, weight-difference_of s t))
 
 -- ---- terms of a program
 

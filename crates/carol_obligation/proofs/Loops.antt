@@ -14,7 +14,7 @@ use Rattle.carol_program.specs.Rules.{Rules, OpRules}
 use Rattle.carol_formula.specs.Named.{named_claim}
 use Rattle.carol_obligation.specs.Sites.{After}
 use Rattle.carol_program.specs.declared.steps.Part.{Part}
-use Rattle.carol_obligation.specs.Formed.{after_name, owed, with_flags, with_round, with_ties}
+use Rattle.carol_obligation.specs.Formed.{after_name, owed, with_round, with_ties}
 use Rattle.carol_obligation.specs.Budget.{AreLightParts}
 use Rattle.carol_obligation.specs.Collected.{Point, amounts_owed, issue_owed, collected, behind_query, behind_closing, behind_test}
 use Rattle.carol_obligation.specs.Ready.{IsReady}
@@ -22,11 +22,6 @@ use Rattle.carol_obligation.specs.Passing.{Passes}
 use Rattle.carol_obligation.proofs.Gathering.{Gathered, gathered_more, gathered_end}
 use Rattle.carol_obligation.proofs.Steps.{ready_query, ready_release, ready_issue, ready_second}
 use Rattle.carol_program.specs.WellFormed.{AreRules}
-
--- the rows of flags from here on are those that are left
-pub record Flagging (kinds : List CellKind) (base : ℕ) (start : Formula) (left : List CellKind) (variable : ℕ) (known : Formula) : Type 0 where
-  pub same : with_flags left variable (claim_of known) ≡ with_flags kinds base (claim_of start)
-  pub count : variable + length left ≡ base + length kinds
 
 -- the ties from here on are those that are left
 pub record Tying (kinds : List CellKind) (round : ℕ) (left : List Part) (known : Formula) (parts : List Part) (start : Formula) : Type 0 where

@@ -11,6 +11,8 @@ use Rattle.carol_formula.proofs.Weights.{weight-difference_of, weight-sum_of}
 use Rattle.carol_formula.specs.Named.{named_claim, named_term}
 use Rattle.carol_formula.proofs.Renamings.{weight-named_term}
 use Rattle.carol_program.specs.declared.steps.Part.{Part}
+use Rattle.carol_program.proofs.Holdings.{with_kinds-light, with_kinds-nodes}
+use Rattle.carol_program.specs.Rows.{at_most, with_kinds}
 use Rattle.carol_program.specs.Rules.{Rules, OpRules}
 use Rattle.carol_program.specs.WellFormed.{AreRules, IsTermOver, IsFormulaOver}
 use Rattle.carol_formula.specs.Size.{nodes_of, light_limit, IsLightTerm, IsLight}
@@ -18,7 +20,7 @@ use Rattle.carol_program.specs.Limits.{most_cells, most_queries, most_statements
 use Rattle.carol_program.specs.Variables.{guard_variables, invariant_variables, outcome_variables, query_variable}
 use Rattle.carol_obligation.specs.Decoded.{round_variable}
 use Rattle.carol_obligation.specs.Sites.{Ending, Amount, After, Gives}
-use Rattle.carol_obligation.specs.Formed.{at_most, with_flags, with_round, with_query, guard_at, with_test, too_large, tie, with_tie, with_ties, broken, owed, round_name, guard_name, after_name, result_name}
+use Rattle.carol_obligation.specs.Formed.{with_round, with_query, guard_at, with_test, too_large, tie, with_tie, with_ties, broken, owed, round_name, guard_name, after_name, result_name}
 use Rattle.carol_obligation.specs.Budget.{amount_limit, IsDecidable, AreLightParts, AreSmallParts, round_nodes, test_nodes}
 use Rattle.carol_obligation.proofs.Light.{HaveNames, light_term, named_light, round_named, guard_named, after_named, result_named}
 
@@ -64,23 +66,13 @@ grows_and old c most light few = record { light = λ l. (l, light); few = omega 
 pub light_at_most : (s t : Linear) → weight s + weight t < light_limit → IsLight (at_most s t)
 light_at_most s t h = omega (arith, h, weight-difference_of s t)
 
-grows_flags : (kinds : List CellKind) (base : ℕ) (known : Claim) → Grows known (4 * length kinds) (with_flags kinds base known)
-grows_flags [] base known = record { light = λ l. l; few = omega arith }
-grows_flags (Flag ∷ kinds) base known =
-    let rows = And (at_most (constant_of (pos 0)) (variable_of base)) (at_most (variable_of base) (constant_of (pos 1))) in
-    let more = grows_flags kinds (base + 1) (And known rows) in
-    record {
-      light = λ l. more.light (l, (light_at_most (constant_of (pos 0)) (variable_of base) (omega arith), light_at_most (variable_of base) (constant_of (pos 1)) (omega arith)));
-      few = omega (arith, more.few);
-    }
-grows_flags (Counter ∷ kinds) base known = let more = grows_flags kinds (base + 1) known in record { light = more.light; few = omega (arith, more.few) }
-grows_flags (Peak ∷ kinds) base known = let more = grows_flags kinds (base + 1) known in record { light = more.light; few = omega (arith, more.few) }
-
-with_stored : (kinds : List CellKind) (base : ℕ) (known c : Claim) → length kinds ≤ most_cells → IsLight c → nodes_of c ≤ 256 → Grows known round_nodes (with_flags kinds base (And known c))
+with_stored : (kinds : List CellKind) (base : ℕ) (known c : Claim) → length kinds ≤ most_cells → IsLight c → nodes_of c ≤ 256 → Grows known round_nodes (with_kinds kinds base (And known c))
 with_stored kinds base known c few light small =
     let first = grows_and known c 256 light small in
-    let more = grows_flags kinds base (And known c) in
-    record { light = λ l. more.light (first.light l); few = omega (arith, first.few, more.few, few) }
+    record {
+      light = λ l. with_kinds-light kinds base (And known c) (first.light l);
+      few = omega (arith, first.few, with_kinds-nodes kinds base (And known c), few);
+    }
 
 pub grows_round : (p : Rules) (round : ℕ) (known : Claim) → AreRules p → round ≤ most_statements → Grows known round_nodes (with_round p round known)
 grows_round p round known rules le =

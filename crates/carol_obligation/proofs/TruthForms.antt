@@ -8,7 +8,8 @@ use Rattle.carol_formula.specs.Value.{value_at}
 use Rattle.carol_formula.proofs.Claims.{at_most_zero, is_at_most_zero_from}
 use Rattle.carol_formula.proofs.Sums.{value_at-difference_of}
 use Rattle.carol_obligation.proofs.Equivalences.{chain, both, swapped}
-use Rattle.carol_obligation.specs.Formed.{at_most, with_test}
+use Rattle.carol_program.specs.Rows.{at_most}
+use Rattle.carol_obligation.specs.Formed.{with_test}
 
 either : {A B C D : Type 0} → A ↔ B → C ↔ D → (A ⊎ C) ↔ (B ⊎ D)
 either {A = A} {B = B} {C = C} {D = D} h k = (forth, back_again)

@@ -4,14 +4,14 @@ use Rattle.std.specs.Prelude.{◌≡◌, ℕ, zero, suc, ◌+◌, ◌*◌, if◌
 use Rattle.carol_store.specs.declared.shape.CellKind.{CellKind}
 use Rattle.carol_store.specs.Kinds.{CellValue}
 use Rattle.carol_formula.specs.Claim.{truth}
-use Rattle.carol_program.specs.Variables.{param_variable, query_variable, store_at}
+use Rattle.carol_program.specs.Variables.{param_variable, query_variable, store_at, store_variables}
 use Rattle.carol_reading.specs.Marks.{Mark, Asked, Issued, Released}
 use Rattle.carol_reading.specs.Readings.{effect_of}
 use Rattle.carol_obligation.specs.Ways.{Way, Asks, Puts, Frees, Tests, rounds_of, has_query}
 
 -- a cell of the store of a round, the first of which is 0
 abbrev pub round_variable : ℕ → ℕ → ℕ
-round_variable round cell = 192 + 16 * round + cell
+round_variable round cell = 192 + store_variables * round + cell
 
 -- this many arguments, from the parameter with this number on
 abbrev pub args_from : ℕ → ℕ → (ℕ → ℤ) → List ℤ

@@ -3,12 +3,13 @@ use Rattle.std.specs.Prelude.{ℕ, ◌+◌, ◌-◌, ◌==◌, nat_lt, Bool, if�
 use Rattle.carol_store.specs.declared.shape.CellKind.{CellKind}
 use Rattle.carol_store.specs.declared.shape.CellKind.TheVariants.{Counter, Peak, Flag}
 use Rattle.carol_store.specs.declared.effect.TheConstants.{MOST_AMOUNT, MOST_TARGET}
-use Rattle.carol_formula.specs.Linear.{Linear, constant_of, variable_of, sum_of, difference_of}
+use Rattle.carol_formula.specs.Linear.{Linear, constant_of, variable_of, sum_of}
 use Rattle.carol_formula.specs.Claim.{Claim, True, False, Le, And, Or, Not}
 use Rattle.carol_formula.specs.Named.{named_claim}
 use Rattle.carol_program.specs.declared.steps.Part.{Part}
 use Rattle.carol_program.specs.Rules.{Rules, OpRules}
-use Rattle.carol_program.specs.Variables.{cell_variable, result_variable, query_variable}
+use Rattle.carol_program.specs.Rows.{at_most, with_kinds}
+use Rattle.carol_program.specs.Variables.{cell_variable, there_variable, result_variable, query_variable}
 use Rattle.carol_reading.specs.Readings.{amount_for}
 use Rattle.carol_obligation.specs.Ways.{Way, Asks, Puts, Frees, Tests, rounds_of, has_query}
 use Rattle.carol_obligation.specs.Sites.{Ending, Amount, After, Gives, Site}
@@ -22,7 +23,7 @@ round_name round v = variable_of (round_variable round v)
 
 -- in a guard `here` is the store of a query, and `there` that of a round
 abbrev pub guard_name : ℕ → ℕ → ℕ → Linear
-guard_name slot round v = if nat_lt v 16 then variable_of (query_variable slot v) else variable_of (round_variable round (v - 16))
+guard_name slot round v = if nat_lt v (there_variable 0) then variable_of (query_variable slot v) else variable_of (round_variable round (v - there_variable 0))
 
 -- a cell after something is done to it in a round
 abbrev pub done_name : ℕ → ℕ → Option CellKind → Linear → Linear
@@ -45,27 +46,14 @@ result_name value v = if v == result_variable then value else variable_of v
 
 -- ---- what is known at a place, one conjunction
 
--- the first is at most the second
-abbrev pub at_most : Linear → Linear → Claim
-at_most a b = Le (difference_of a b)
-
--- the cells of the store with the variables from this one on that are flags are 0 or 1
-abbrev pub with_flags : List CellKind → ℕ → Claim → Claim
-with_flags [] base known = known
-with_flags (Flag ∷ kinds) base known =
-    with_flags kinds (base + 1)
-    (And known (And (at_most (constant_of (pos 0)) (variable_of base)) (at_most (variable_of base) (constant_of (pos 1)))))
-with_flags (Counter ∷ kinds) base known = with_flags kinds (base + 1) known
-with_flags (Peak ∷ kinds) base known = with_flags kinds (base + 1) known
-
 -- the store of a round is one of the shape, and the invariant is true of it
 abbrev pub with_round : Rules → ℕ → Claim → Claim
-with_round p round known = with_flags p.shape (round_variable round 0) (And known (named_claim (round_name round) p.invariant))
+with_round p round known = with_kinds p.shape (round_variable round 0) (And known (named_claim (round_name round) p.invariant))
 
 abbrev pub guard_at : Rules → Option Claim → ℕ → ℕ → Claim → Claim
 guard_at p None slot round known = False
 guard_at p (Some guard) slot round known =
-    with_flags p.shape (query_variable slot 0) (And known (named_claim (guard_name slot round) guard))
+    with_kinds p.shape (query_variable slot 0) (And known (named_claim (guard_name slot round) guard))
 
 -- the store of a query is one of the shape, and the guard is true of it and of the store of the round
 abbrev pub with_query : Rules → ℕ → ℕ → ℕ → Claim → Claim

@@ -12,9 +12,8 @@ ghost use Rattle.carol_obligation.specs.Formed.{
 };
 
 use crate::names::{GuardNames, RoundNames, round_variable};
-use crate::rows::{with_flags, with_more};
 use carol_formula::{Boxed, Formula, renamed};
-use carol_program::{FIRST_QUERIED, Program, STORE_VARIABLES};
+use carol_program::{Program, query_variable, with_kinds, with_more};
 use std::alloc::{AllocError, Global};
 
 /// The store of a round is one of the shape, and the invariant is true of it.
@@ -31,13 +30,13 @@ pub(crate) fn with_round(
 {
     let invariant = renamed(alloc, &program.invariant, &RoundNames { round })?;
     let known = with_more(alloc, known, invariant)?;
-    let flags = with_flags(
+    let stored = with_kinds(
         alloc,
         program.shape.kinds(),
         round_variable(round, 0),
         known,
     )?;
-    Ok(flags)
+    Ok(stored)
 }
 
 // The formula of the guard with this number.
@@ -68,9 +67,8 @@ pub(crate) fn with_query(
 {
     let formula = renamed(alloc, guard_of(program, guard), &GuardNames { slot, round })?;
     let known = with_more(alloc, known, formula)?;
-    let first = FIRST_QUERIED + STORE_VARIABLES * slot;
-    let flags = with_flags(alloc, program.shape.kinds(), first, known)?;
-    Ok(flags)
+    let stored = with_kinds(alloc, program.shape.kinds(), query_variable(slot, 0), known)?;
+    Ok(stored)
 }
 
 /// The round is over; nothing needs to be known of one without a query.

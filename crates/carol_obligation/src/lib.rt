@@ -29,5 +29,6 @@ pub use body::walk;
 pub use collector::Collector;
 pub use goodness::good_laws;
 pub use list::{Obligation, ObligationList, obligations};
+pub use names::{FIRST_ROUND, round_variable};
 pub use truths::truth_laws;
 pub use whole::walk_all;

@@ -6,7 +6,7 @@ ghost use Rattle.carol_program.specs.Limits.{most_statements};
 ghost use Rattle.carol_obligation.specs.Decoded.{round_variable};
 
 use carol_formula::{Naming, Term, Variable, plus};
-use carol_program::{FIRST_QUERIED, FIRST_THERE, Part, RESULT_VARIABLE, STORE_VARIABLES};
+use carol_program::{FIRST_THERE, Part, RESULT_VARIABLE, STORE_VARIABLES, query_variable};
 use carol_reading::amount_for;
 use carol_store::CellKind;
 use std::alloc::{AllocError, Global};
@@ -49,8 +49,7 @@ impl Naming for GuardNames {
 
     fn name(&self, alloc: Global, v: Variable) -> Result<Term, AllocError> {
         if v.0 < FIRST_THERE {
-            let first = FIRST_QUERIED + STORE_VARIABLES * self.slot;
-            Term::variable(alloc, Variable(first + v.0))
+            Term::variable(alloc, Variable(query_variable(self.slot, v.0)))
         } else {
             Term::variable(
                 alloc,
@@ -155,11 +154,11 @@ impl<'a> Naming for ResultNames<'a> {
     }
 }
 
-// The variable of the first cell of the store of the first round.
-const FIRST_ROUND: u32 = 192;
+/// The variable of the first cell of the store of the first round.
+pub const FIRST_ROUND: u32 = 192;
 
 /// A cell of the store of a round, the first of which is 0.
-pub(crate) fn round_variable(round: u32, cell: u32) -> u32
+pub fn round_variable(round: u32, cell: u32) -> u32
     requires round { round ≤ most_statements }
     requires cell { cell < 16 }
     ensures { result ≡ round_variable round cell }

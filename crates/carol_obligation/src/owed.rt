@@ -10,9 +10,9 @@ ghost use Rattle.carol_obligation.specs.Budget.{AreLightParts, amount_limit};
 
 use crate::known::with_round;
 use crate::names::{AfterNames, ResultNames, kind_at, round_variable};
-use crate::rows::{copied, tie, too_large, with_more};
+use crate::rows::{copied, tie, too_large};
 use carol_formula::{Boxed, Formula, Term, Variable, renamed};
-use carol_program::{Op, Part, Program};
+use carol_program::{Op, Part, Program, with_more};
 use carol_store::CellKind;
 use std::alloc::{AllocError, Global};
 
@@ -52,13 +52,15 @@ fn with_tie(
     requires amount { weight part.now.amount < amount_limit }
     ensures { IfOk result (λ f. claim_of f ≡ with_tie round part.now kind (claim_of known)) }
 {
-    if !matches!(kind, Some(CellKind::Peak)) {
-        return Ok(known);
+    match kind {
+        None | Some(CellKind::Counter | CellKind::Flag) => Ok(known),
+        Some(CellKind::Peak) => {
+            let cell = Term::variable(alloc, Variable(round_variable(round, part.cell)))?;
+            let peak = Term::variable(alloc, Variable(part.cell))?;
+            let tied = tie(alloc, &cell, &peak, &part.amount)?;
+            with_more(alloc, known, tied)
+        }
     }
-    let cell = Term::variable(alloc, Variable(round_variable(round, part.cell)))?;
-    let peak = Term::variable(alloc, Variable(part.cell))?;
-    let tied = tie(alloc, &cell, &peak, &part.amount)?;
-    with_more(alloc, known, tied)
 }
 
 // The same for each of the parts.

@@ -23,7 +23,8 @@ OutcomeSays said (Large limit) answer = answer ≡ line_answer (line.TooLarge li
 
 -- the answer to the bytes, by what is said of a file
 abbrev pub BytesSay : (FileTree → Answer → Type 0) → List ℕ → Answer → Type 0
-BytesSay said bytes answer = (outcome : Outcome) × Means bytes outcome × OutcomeSays said outcome answer
+BytesSay said bytes answer =
+    (outcome : Outcome) × Means bytes outcome × OutcomeSays said outcome answer
 
 -- a file as the grammar and its limits have it
 pub record IsSound (file : FileTree) : Type 0 where

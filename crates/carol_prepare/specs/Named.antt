@@ -19,7 +19,8 @@ name_line bad = line.BadName bad.span.line bad.span.column bad.kind
 
 -- the answer to what is wrong with the names; want of memory has none
 abbrev pub name_answer : NameError → Option Answer
-name_answer (name.Wrong kind called span) = Some (line_answer (line.BadName span.line span.column kind))
+name_answer (name.Wrong kind called span) =
+    Some (line_answer (line.BadName span.line span.column kind))
 name_answer name.NoMemory = None
 
 -- the first fault of the names is told

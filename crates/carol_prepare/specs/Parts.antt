@@ -25,12 +25,15 @@ statement_of (Cut a b) = statement.Cut a b
 statement_of (Join a b) = statement.Join a b
 
 -- Beside a program a word takes a scene alone, with which the file ends, or one with a script or a
--- transcript behind it: of the script its statements, of the transcript the offset of its second line.
-abbrev pub scene_part : Option SceneDecl → Option (List ScriptLine) → Option ℕ → Option (SceneDecl × Unit {0})
+-- transcript behind it: of the script its statements, of the transcript the offset of its second
+-- line.
+abbrev pub scene_part
+    : Option SceneDecl → Option (List ScriptLine) → Option ℕ → Option (SceneDecl × Unit {0})
 scene_part (Some scene) None None = Some (scene, tt)
 scene_part scene script tail = None
 
-abbrev pub script_part : Option SceneDecl → Option (List ScriptLine) → Option (SceneDecl × List Statement)
+abbrev pub script_part
+    : Option SceneDecl → Option (List ScriptLine) → Option (SceneDecl × List Statement)
 script_part (Some scene) (Some script) = Some (scene, map statement_of script)
 script_part scene script = None
 
@@ -54,8 +57,8 @@ abbrev pub TakesSay
 TakesSay word said tree None answer = answer ≡ part_answer word
 TakesSay word said tree (Some (scene, part)) answer = PlacedSay (said part) tree scene answer
 
--- the answer to the bytes, to which a word takes these parts of a file, by what is said of the program
--- in the scene with the third part
+-- the answer to the bytes, to which a word takes these parts of a file, by what is said of the
+-- program in the scene with the third part
 abbrev pub PartsSay
     : {A : Type 0} → List ℕ → (FileTree → Option (SceneDecl × A))
     → (A → Program → Scene → Answer → Type 0) → List ℕ → Answer → Type 0

@@ -1,5 +1,5 @@
--- What is told of a program in a scene as they are written: the first fault of the names, then that of
--- the scene, or what is said of the program in the scene.
+-- What is told of a program in a scene as they are written: the first fault of the names, then that
+-- of the scene, or what is said of the program in the scene.
 use Rattle.std.specs.Prelude.{◌≡◌, ◌⊎◌, List, [], Some}
 use Rattle.carol_accept.specs.Refusals.{IsKeptAs}
 use Rattle.carol_program.specs.declared.program.Program.{Program}
@@ -44,12 +44,14 @@ SceneSays said program written answer =
     IsToldScene program written answer ⊎ IsOfScene said program written answer
 
 -- the answer to both as they are written, by what is said of a program in a scene
-abbrev pub PlacedSay : (Program → Scene → Answer → Type 0) → ProgramTree → SceneDecl → Answer → Type 0
+abbrev pub PlacedSay
+    : (Program → Scene → Answer → Type 0) → ProgramTree → SceneDecl → Answer → Type 0
 PlacedSay said tree written answer =
     NamesSay (λ program. SceneSays (said program) program written) tree answer
 
 -- the tree's program is kept so, and the scene is valid for it
-pub record IsReady (tree : ProgramTree) (written : SceneDecl) (kept : Kept) (scene : Scene) : Type 0 where
+pub record IsReady
+    (tree : ProgramTree) (written : SceneDecl) (kept : Kept) (scene : Scene) : Type 0 where
   pub program : Program
   pub is_program : IsProgramOf tree program
   pub is_scene : IsSceneOf program written scene

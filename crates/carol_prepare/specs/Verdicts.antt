@@ -1,4 +1,5 @@
--- What is told of a program: why it isn't accepted, or what is said of it with its table of accords.
+-- What is told of a program: why it isn't accepted, or what is said of it with its table of
+-- accords.
 use Rattle.std.specs.Prelude.{◌≡◌, ◌⊎◌, Option, Some, None}
 use Rattle.carol_accept.specs.Refusals.{HandsBack, IsFault, IsKeptAs, IsRefusedFor}
 use Rattle.carol_accept.specs.Verdicts.{verdict_text}

@@ -3,9 +3,9 @@
 //! a part of the canonical text spells stands a sentence of the part's rule, whose value is the
 //! part but for places.
 //!
-//! And what is small is read. `proofs/Counting` says how a token of a canonical text is counted, and
-//! `Growing` that terms and formulas count what they measure; in `Going..` each line keeps within
-//! the limits, and `Smallness` has the law.
+//! And what is small is read. `proofs/Counting` says how a token of a canonical text is counted,
+//! and `Growing` that terms and formulas count what they measure; in `Going..` each line keeps
+//! within the limits, and `Smallness` has the law.
 ghost use Rattle.carol_print.specs.ReadBack.{SmallIsRead};
 ghost use Rattle.carol_print.specs.Spelled.{CanonicalIsRead};
 

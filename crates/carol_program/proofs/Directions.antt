@@ -5,11 +5,10 @@ use Rattle.std.specs.List.{cons_option}
 use Rattle.std.specs.Option.{option_and_then, option_map}
 use Rattle.carol_store.specs.declared.shape.CellKind.{CellKind}
 use Rattle.carol_store.specs.declared.shape.CellKind.TheVariants.{Counter, Peak, Flag}
-use Rattle.carol_store.specs.declared.direction.Direction.{Direction}
 use Rattle.carol_store.specs.declared.effect.Atom.{Atom}
 use Rattle.carol_store.specs.Directions.{directions}
 use Rattle.carol_store.specs.Kinds.{way}
-use Rattle.carol_program.specs.Accords.{HasWay}
+use Rattle.carol_program.specs.Accords.{AreWays, HasWay}
 
 -- a way that an atom takes is one of its cell's
 pub way_there : (kinds : List CellKind) (cell : ℕ) (value : ℤ) (up : Bool) → option_and_then (λ kind. way kind value) (slice_get kinds cell) ≡ Some up → HasWay kinds cell up
@@ -31,12 +30,7 @@ way_there (Flag ∷ kinds) zero value false e = absurd (only_up e)
     only_up q = cc
 way_there (kind ∷ kinds) (suc cell) value up e = way_there kinds cell value up e
 
--- each direction is a way of its cell
-abbrev pub AreWays : List CellKind → List Direction → Type 0
-AreWays kinds [] = Unit {0}
-AreWays kinds (d ∷ ds) = HasWay kinds d.cell d.up × AreWays kinds ds
-
--- so are those of an effect
+-- each direction of an effect is a way of its cell
 pub directions_are_ways : (kinds : List CellKind) (atoms : List Atom) → AreWays kinds (directions kinds atoms)
 directions_are_ways kinds [] = tt
 directions_are_ways kinds (atom ∷ atoms) =

@@ -1,3 +1,4 @@
 pub mod Behind
 pub mod Directions
+pub mod Holdings
 pub mod Ways

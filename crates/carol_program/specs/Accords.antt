@@ -1,6 +1,7 @@
 -- The table of accords as plain data: the entries by guard, then by cell, up before down.
 use Rattle.std.specs.Prelude.{◌≡◌, ℕ, zero, suc, ◌+◌, ◌*◌, Bool, true, if◌then◌else◌, List, [], ◌∷◌, length, Option, slice_get}
 use Rattle.carol_store.specs.declared.shape.CellKind.{CellKind}
+use Rattle.carol_store.specs.declared.direction.Direction.{Direction}
 use Rattle.carol_store.specs.Kinds.{ways, can_go}
 use Rattle.carol_program.specs.declared.accords.Entry.{Entry}
 
@@ -19,6 +20,11 @@ abbrev pub HasWay : List CellKind → ℕ → Bool → Type 0
 HasWay [] cell up = ⊥
 HasWay (kind ∷ kinds) zero up = can_go kind up ≡ true
 HasWay (kind ∷ kinds) (suc cell) up = HasWay kinds cell up
+
+-- each direction is a way of its cell
+abbrev pub AreWays : List CellKind → List Direction → Type 0
+AreWays kinds [] = Unit {0}
+AreWays kinds (d ∷ ds) = HasWay kinds d.cell d.up × AreWays kinds ds
 
 -- the place of a way in a guard's row
 abbrev pub place_of : List CellKind → ℕ → Bool → ℕ

@@ -3,9 +3,11 @@ pub mod Bodies
 pub mod Chains
 pub mod Rules
 pub mod Variables
+pub mod Rows
 pub mod Called
 pub mod Accords
 pub mod Admitting
+pub mod Order
 pub mod Preserving
 pub mod WellFormed
 pub mod Scenes

@@ -4,13 +4,17 @@ use Rattle.std.specs.Prelude.{ℕ, ◌+◌, ◌-◌, ◌*◌, ◌<◌, ◌≤◌
 use Rattle.carol_store.specs.declared.shape.CellKind.{CellKind}
 use Rattle.carol_store.specs.Kinds.{CellValue, number_of, value_of}
 
+-- how many variables there are for the cells of each store
+abbrev pub store_variables : ℕ
+store_variables = 16
+
 -- a cell of the store itself, or of the store that was read
 abbrev pub cell_variable : ℕ → ℕ
 cell_variable cell = cell
 
 -- a cell of the global store, in a guard
 abbrev pub there_variable : ℕ → ℕ
-there_variable cell = 16 + cell
+there_variable cell = store_variables + cell
 
 abbrev pub param_variable : ℕ → ℕ
 param_variable param = 32 + param
@@ -20,7 +24,7 @@ result_variable = 48
 
 -- a cell of the store that the query in this slot took
 abbrev pub query_variable : ℕ → ℕ → ℕ
-query_variable slot cell = 64 + 16 * slot + cell
+query_variable slot cell = 64 + store_variables * slot + cell
 
 -- ---- which of them a place may use: ranges, each as its first variable and how many there are
 

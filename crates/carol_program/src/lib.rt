@@ -16,6 +16,7 @@ mod lookups;
 mod names;
 mod places;
 mod program;
+mod rows;
 mod scenes;
 mod steps;
 mod variables;
@@ -26,8 +27,9 @@ pub use lookups::{Arguments, OneStore, TwoStores};
 pub use names::{Name, NameList, Names, OpNameList, OpNames};
 pub use places::Place;
 pub use program::{FormulaList, Guard, GuardList, Op, OpList, Program};
+pub use rows::{at_most, with_kinds, with_more};
 pub use scenes::{ArgList, Command, CommandList, PlanList, Scene, SessionPlan};
 pub use steps::{Part, PartList, Step};
 pub use variables::{
-    FIRST_PARAMETER, FIRST_QUERIED, FIRST_THERE, RESULT_VARIABLE, STORE_VARIABLES,
+    FIRST_PARAMETER, FIRST_QUERIED, FIRST_THERE, RESULT_VARIABLE, STORE_VARIABLES, query_variable,
 };

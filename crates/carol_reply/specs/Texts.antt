@@ -1,5 +1,5 @@
--- The texts of the statuses that stand in one line, each ended by a line feed. The others are told by
--- the words.
+-- The texts of the statuses that stand in one line, each ended by a line feed. The others are told
+-- by the words.
 use Rattle.std.specs.Prelude.{List, ℕ, [], ◌∷◌, ◌++◌, codes, decimal}
 use Rattle.carol_history.specs.declared.script.ScriptCause.{ScriptCause}
 use Rattle.carol_history.specs.declared.script.ScriptCause.TheVariants as cause

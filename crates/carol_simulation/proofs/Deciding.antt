@@ -11,11 +11,11 @@ use Rattle.carol_formula.specs.Claim.{Claim}
 use Rattle.carol_program.specs.declared.accords.Entry.{Entry}
 use Rattle.carol_program.specs.declared.accords.Entry.TheVariants.{Yes, No}
 use Rattle.carol_program.specs.declared.scenes.Scene.{Scene}
-use Rattle.carol_program.specs.Accords.{Accords, entry_of}
+use Rattle.carol_program.specs.Accords.{Accords, AreWays, entry_of}
 use Rattle.carol_program.specs.Admitting.{admits, admits_all, is_yes}
 use Rattle.carol_program.specs.Preserving.{IsRight, Preserves, Within}
 use Rattle.carol_program.specs.Rules.{Rules}
-use Rattle.carol_program.proofs.Directions.{AreWays, directions_are_ways}
+use Rattle.carol_program.proofs.Directions.{directions_are_ways}
 use Rattle.carol_event.specs.declared.event.Event.{Event}
 use Rattle.carol_history.specs.Journals.{effect_at, is_held}
 use Rattle.carol_history.specs.Legal.{Admits, AdmitsIn, IsSettled}

@@ -10,6 +10,7 @@ use Rattle.carol_store.specs.Stores.{IsStore}
 use Rattle.carol_formula.specs.Claim.{truth}
 use Rattle.carol_program.specs.Accords.{Accords}
 use Rattle.carol_program.specs.Bodies.{Body, Query, Issue, Release, Branch, Return}
+use Rattle.carol_program.specs.Order.{IsBefore}
 use Rattle.carol_program.specs.Preserving.{IsRight}
 use Rattle.carol_program.specs.Rules.{Rules}
 use Rattle.carol_program.specs.Variables.{number_of_args}
@@ -23,7 +24,7 @@ use Rattle.carol_event.specs.declared.event.Event.{Event}
 use Rattle.carol_event.specs.declared.event.Event.TheVariants as event
 use Rattle.carol_history.specs.Acts.{Next, acts, attempt, is_live, marks}
 use Rattle.carol_history.specs.Journals.{journal, is_held, local}
-use Rattle.carol_history.specs.Legal.{Admits, IsBefore, IsSettled, Lacks}
+use Rattle.carol_history.specs.Legal.{Admits, IsSettled, Lacks}
 use Rattle.carol_history.specs.Links.{is_linked}
 use Rattle.carol_history.specs.Runs.{Run}
 use Rattle.carol_history.proofs.Actors.{at_place}

@@ -61,9 +61,10 @@ pub fn plain<R: Threads + Sync, S: Source, K: Sink>(
 /// a fault. Where none was counted and nothing stands against the input, it is `Ok`, or `NoMemory`.
 /// For the single word `run` it may wait: the threads that run the scene pass the gate
 /// after each of their steps. What is told then is a history that the accepted program can make,
-/// whatever the order of the threads' steps. Up to each of its events, each live query stands in its
-/// guard's relation to the global store, the invariant is true of it, the history is that of one
-/// store read in order, replicas that hold the same entries are equal, and no session meets a fault.
+/// whatever the order of the threads' steps. Up to each of its events, each live query stands in
+/// its guard's relation to the global store, the invariant is true of it, the history is that of
+/// one store read in order, replicas that hold the same entries are equal, and no session meets a
+/// fault.
 pub fn carol<R: Threads + Wait + Sync, S: Source, K: Sink, G: Gate + Sync>(
     rt: &R,
     alloc: Global,

@@ -33,7 +33,8 @@ pub record IsSummed (count : ℕ) (kept : Kept) (scene : Scene) (answer : Answer
 
 -- the answer to a program in a scene
 abbrev pub SceneSums : ℕ → Unit {0} → Program → Scene → Answer → Type 0
-SceneSums count none program scene answer = VerdictSays (λ kept. IsSummed count kept scene) program answer
+SceneSums count none program scene answer =
+    VerdictSays (λ kept. IsSummed count kept scene) program answer
 
 abbrev pub gen_words : ℕ → List ℕ
 gen_words count = codes "gen " ++ decimal count

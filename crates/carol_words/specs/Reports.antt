@@ -19,8 +19,8 @@ Reports status.Ok = Unit {0}
 Reports status.Full = Unit {0}
 Reports said = ⊥
 
--- the text is a transcript's first line with a tail, which is that of a history's report, behind the
--- same program and scene; so it is told genuine
+-- the text is a transcript's first line with a tail, which is that of a history's report, behind
+-- the same program and scene; so it is told genuine
 abbrev pub IsGenuine : ProgramTree → SceneDecl → List ℕ → Type 0
 IsGenuine program written text =
     (tail : List ℕ) → text ≡ transcript_line ++ tail →

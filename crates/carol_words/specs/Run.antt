@@ -26,8 +26,8 @@ Ended scene past status.Ok = AreDone scene past
 Ended scene past status.Full = (AreDone scene past → ⊥) × (length past ≡ MOST_EVENTS)
 Ended scene past ended = ⊥
 
--- A history of the accepted program in the scene, from no events, is told. In which order threads take
--- their steps isn't known, so it may be one or another.
+-- A history of the accepted program in the scene, from no events, is told. In which order threads
+-- take their steps isn't known, so it may be one or another.
 pub record IsToldRun (kept : Kept) (scene : Scene) (answer : Answer) : Type 0 where
   pub past : List Event
   -- each event may come behind those before it, none cuts or joins replicas, and nobody is refused

@@ -17,7 +17,8 @@ use Rattle.carol_reply.specs.Texts.{Answer, line_answer}
 use Rattle.carol_report.specs.Report.{report_text}
 use Rattle.carol_simulation.specs.Upheld.{Upheld}
 
--- where a script came to this: the report of its history, or its first statement that gives no event
+-- where a script came to this: the report of its history, or its first statement that gives no
+-- event
 abbrev pub script_answer : Rules → Scene → Scripted → Answer
 script_answer p scene script = elim script.bad [
   | None ↦ (status.Ok, report_text p scene script.history)

@@ -25,7 +25,8 @@ impl Model for Roster {
 }
 
 /// The right to take sessions from a roster. Contracts see it as the queue of which it is, how many
-/// sessions were put in before it was made, whether it is the only one, and the sessions that it took.
+/// sessions were put in before it was made, whether it is the only one, and the sessions that it
+/// took.
 #[derive(Drop)]
 pub struct Taker {
     pass: HandPass,

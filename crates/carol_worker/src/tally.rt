@@ -35,7 +35,7 @@ pub(crate) struct Answered {
 }
 
 impl Answered {
-    // No step was answered yet.
+    /// No step was answered yet.
     pub(crate) fn new() -> Answered
         ensures { result ≡ nothing_answered }
     {
@@ -46,7 +46,7 @@ impl Answered {
         }
     }
 
-    // The step of the session was answered. Want of memory is no answer.
+    /// The step of the session was answered. Want of memory is no answer.
     pub(crate) fn note(&mut self, session: u32, given: Result<Moved, HouseError>)
         ensures noted { self.new ≡ noted session given self.old }
         ensures finished { self.old.finished ≤ self.new.finished }

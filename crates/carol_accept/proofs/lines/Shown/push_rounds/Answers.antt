@@ -11,5 +11,5 @@ loop-round-preserved g c =
     let t = c.args.trail.now in
     let shown = c.shown_for.ensures in
     rw c.in_ok-push_numbers.ensures
-    (rounds_more c.loop-round.out.items name f c.args.cells (t.rounds + 1) c.loop-round.round (192 + 16 * c.loop-round.round) (192 + 16 * c.shown_for.result) t (c.args.out.now.items ++ rounds_text name f c.args.cells t (t.rounds + 1) 0)
-    c.loop-round-test.true (omega arith) (omega (arith, shown)) c.loop-round.invariant)
+    (rounds_more c.loop-round.out.items name f c.args.cells (t.rounds + 1) c.loop-round.round c.round_variable-named.result c.round_variable-shown.result t (c.args.out.now.items ++ rounds_text name f c.args.cells t (t.rounds + 1) 0)
+    c.loop-round-test.true c.round_variable-named.ensures (omega (arith, shown, c.round_variable-shown.ensures)) c.loop-round.invariant)

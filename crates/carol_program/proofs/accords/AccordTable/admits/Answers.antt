@@ -2,7 +2,8 @@ use Rattle.std.proofs.Common.{◌≡◌, List, refl, sym, subst}
 use Rattle.carol_store.specs.declared.direction.Direction.{Direction}
 use Rattle.carol_store.specs.Directions.{directions}
 use Rattle.carol_program.specs.Admitting.{admits, admits_all}
-use Rattle.carol_program.proofs.Directions.{AreWays, directions_are_ways}
+use Rattle.carol_program.specs.Accords.{AreWays}
+use Rattle.carol_program.proofs.Directions.{directions_are_ways}
 use Rattle.carol_program.proofs.accords.AccordTable.admits.Goals as goal
 
 pub loop-direction-init : goal.loop-direction-init

@@ -1,6 +1,6 @@
 use Rattle.std.proofs.Common.{◌≡◌, length}
 use Rattle.carol_program.specs.Admitting.{admits, admits_all}
-use Rattle.carol_program.proofs.Directions.{AreWays}
+use Rattle.carol_program.specs.Accords.{AreWays}
 use Rattle.carol_program.proofs.accords.AccordTable.admits.Given as goal
 
 abbrev pub invariant-loop-direction : goal.invariant-loop-direction

@@ -1,9 +1,0 @@
-use Rattle.std.proofs.Common.{length}
-use Rattle.carol_obligation.proofs.Loops.{Flagging}
-use Rattle.carol_obligation.proofs.rows.with_flags.Given as goal
-
-abbrev pub invariant-loop-kind : goal.invariant-loop-kind
-invariant-loop-kind l = Flagging l.kinds l.base l.fn.known l.left l.variable l.known
-
-abbrev pub decreases-loop-kind : goal.decreases-loop-kind
-decreases-loop-kind l = length l.left
