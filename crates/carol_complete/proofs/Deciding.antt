@@ -1,5 +1,5 @@
 -- That nothing stays open of a program that asks of differences alone.
-use Rattle.std.proofs.Common.{◌≡◌, ℕ, List, [], ◌∷◌, ◌++◌, subst, inl, inr}
+use Rattle.std.proofs.Common.{ℕ, List, [], ◌∷◌, ◌++◌, subst, inl, inr}
 use Rattle.std.specs.List.{AllByRecursion}
 use Rattle.carol_accord.specs.Inferred.{ComesTo, IsOpenAt, step_of}
 use Rattle.carol_complete.specs.Differences.{AsksDifferences, AsksPlainly, DifferencesAreDecided, IsPlain, OwesPlainly}

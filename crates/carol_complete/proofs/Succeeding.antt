@@ -1,12 +1,12 @@
 -- That each word is done where nothing stands against its input.
 use Rattle.std.proofs.Common.{◌≡◌, ◌<◌, ◌≤◌, List, [], ℕ, length, refl, sym, ◌∙◌, ap, subst, inl, inr, arith}
-use Rattle.std.specs.Prelude.{Option, Some, None, codes, drop}
+use Rattle.std.specs.Prelude.{Some, None, codes, drop}
 use Rattle.carol_audit.specs.declared.error.TailError.{TailError}
 use Rattle.carol_audit.specs.declared.error.TailError.TheVariants as tail_error
 use Rattle.carol_audit.specs.declared.finding.Finding.{Finding}
 use Rattle.carol_audit.specs.declared.finding.Finding.TheVariants.{Genuine, FalseEvent, FalseLine}
-use Rattle.carol_complete.specs.Inputs.{AnyScene, GivesAll, IsAuditInput, NothingOpen, StaysBelow, scene_in}
-use Rattle.carol_complete.specs.Laws.{AuditsSucceed, ChecksSucceed, EndsAsDone, RunsEnd, RunsSucceed, StepsSucceed}
+use Rattle.carol_complete.specs.Inputs.{AnyScene, GivesAll, NothingOpen, StaysBelow, scene_in}
+use Rattle.carol_complete.specs.Laws.{AuditsSucceed, ChecksSucceed, RunsEnd, RunsSucceed, StepsSucceed}
 use Rattle.carol_complete.proofs.Passing.{file_said, input_said, names_said, scene_valid, taken_said, verdict_said}
 use Rattle.carol_event.specs.declared.event.Event.{Event}
 use Rattle.carol_history.specs.declared.history.TheConstants.{MOST_EVENTS}
@@ -32,7 +32,7 @@ use Rattle.carol_reply.specs.declared.status.Status.TheVariants as status
 use Rattle.carol_reply.specs.Texts.{Answer}
 use Rattle.carol_report.specs.Report.{report_text}
 use Rattle.carol_syntax.specs.declared.scenes.SceneDecl.{SceneDecl}
-use Rattle.carol_syntax.specs.Files.{FileTree, ProgramTree}
+use Rattle.carol_syntax.specs.Files.{ProgramTree}
 use Rattle.carol_words.specs.Audit.{IsAudited, OffsetSays, TailSays, finding_answer, line_at, tail_answer}
 use Rattle.carol_words.specs.AuditLaws.{ReportsAreFound}
 use Rattle.carol_words.specs.Check.{IsAccorded}

@@ -1,12 +1,11 @@
 -- Nothing stands against the text that `gen` makes, so it succeeds.
-use Rattle.std.proofs.Common.{◌≡◌, ◌≤◌, ℕ, refl, sym, ap, subst}
-use Rattle.std.specs.Prelude.{Some}
+use Rattle.std.proofs.Common.{◌≡◌, ℕ, refl, sym, ap, subst}
 use Rattle.carol_bank.specs.Law.{BankIsAccepted}
 use Rattle.carol_complete.specs.Inputs.{AnyScene, IsSceneInput, NothingOpen, scene_in}
 use Rattle.carol_complete.proofs.Passing.{input_said, verdict_said}
 use Rattle.carol_decide.specs.declared.answer.Why.{Why}
 use Rattle.carol_gen.specs.Law.{GenIsOk, GeneratedIsInput}
-use Rattle.carol_generator.specs.Generated.{bank, generated_file, generated_text}
+use Rattle.carol_generator.specs.Generated.{bank, generated_text}
 use Rattle.carol_generator.specs.Laws.{GeneratedIsFaultless, GeneratedIsRead, IsFaultless}
 use Rattle.carol_grammar.specs.Outcome.{Means, Read}
 use Rattle.carol_meaning.specs.Programs.{rules_of}
@@ -16,8 +15,6 @@ use Rattle.carol_program.specs.declared.places.Place.{Place}
 use Rattle.carol_reading.specs.Good.{IsAccepted}
 use Rattle.carol_reply.specs.Texts.{Answer}
 use Rattle.carol_syntax.specs.Files.{FileTree}
-use Rattle.carol_typecheck.specs.Readings.{IsVerdictFor}
-use Rattle.carol_typecheck.specs.declared.verdict.Verdict.{Verdict}
 use Rattle.carol_typecheck.specs.declared.verdict.Verdict.TheVariants as verdict
 use Rattle.carol_words.specs.Gen.{IsSummed, SceneSums, gen_words}
 

@@ -5,7 +5,6 @@ use Rattle.std.specs.Io.KnownBytes.{Consumes, IsAtEnd}
 use Rattle.std.proofs.lemmas.List.{append-nil, length-append}
 use Rattle.carol_complete.specs.Laws.{AuditsSucceed, ChecksSucceed, RunsSucceed, StepsSucceed}
 use Rattle.carol_gen.specs.Law.{GenIsOk}
-use Rattle.carol_generator.specs.declared.generator.TheConstants.{MOST_PER_SESSION}
 use Rattle.carol_outer.specs.Faults.{Rose}
 use Rattle.carol_reply.specs.declared.status.Status.{Status}
 use Rattle.carol_reply.specs.declared.status.Status.TheVariants as status
