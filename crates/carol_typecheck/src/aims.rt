@@ -62,7 +62,7 @@ impl<'a> Aims<'a> {
             return Ok(wishes);
         };
         let rounds = Rounds::new(alloc, &op.body, statement)?;
-        let params = op.params.len() as u32;
+        let params = u32::try_from(op.params.len()).unwrap_or(u32::MAX);
         for param in 0..params {
             wishes.push(Wish {
                 variable: Variable(FIRST_PARAMETER.saturating_add(param)),
