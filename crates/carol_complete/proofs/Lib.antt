@@ -1,0 +1,3 @@
+pub mod Passing
+pub mod Succeeding
+pub mod Deciding
