@@ -7,11 +7,11 @@ use Rattle.carol_tool.specs.declared.command.Command.{Command}
 use Rattle.carol_tool.specs.declared.command.Command.TheVariants as command
 use Rattle.carol_tool.specs.declared.command.Word.{Word}
 use Rattle.carol_tool.specs.declared.command.Word.TheVariants as word
-use Rattle.carol_words.specs.Audit.{audit_meaning}
-use Rattle.carol_words.specs.Check.{check_meaning}
-use Rattle.carol_words.specs.Gen.{gen_meaning}
-use Rattle.carol_words.specs.Run.{run_meaning}
-use Rattle.carol_words.specs.Step.{step_meaning}
+use Rattle.carol_words_audit.specs.Audit.{audit_meaning}
+use Rattle.carol_words_check.specs.Check.{check_meaning}
+use Rattle.carol_words_gen.specs.Gen.{gen_meaning}
+use Rattle.carol_words_run.specs.Run.{run_meaning}
+use Rattle.carol_words_step.specs.Step.{step_meaning}
 
 -- the bytes of each word
 abbrev pub texts : List (Vec ℕ Global) → List (List ℕ)
