@@ -5,6 +5,7 @@ use Rattle.std.specs.Io.KnownBytes.{Consumes, IsAtEnd}
 use Rattle.std.proofs.lemmas.List.{append-nil, length-append}
 use Rattle.carol_complete.specs.Laws.{AuditsSucceed, ChecksSucceed, RunsSucceed, StepsSucceed}
 use Rattle.carol_gen.specs.Law.{GenIsOk}
+use Rattle.carol_keep_complete.specs.Law.{KeepsSucceed}
 use Rattle.carol_outer.specs.Faults.{Rose}
 use Rattle.carol_reply.specs.declared.status.Status.{Status}
 use Rattle.carol_reply.specs.declared.status.Status.TheVariants as status
@@ -21,6 +22,7 @@ use Rattle.carol_tool.specs.Words.{IsCounted, meaning_of}
 pub record WordLaws : Type 0 where
   pub checks : ChecksSucceed
   pub steps : StepsSucceed
+  pub keeps : KeepsSucceed
   pub audits : AuditsSucceed
   pub runs : RunsSucceed
   pub gen : GenIsOk
@@ -87,6 +89,8 @@ asked_done laws (command.Read word.Check) counted old new meant text ready quiet
     told_done _ _ old.bytes old new h.bytes meant text tt laws.checks ready quiet h.given h.comes
 asked_done laws (command.Read word.Step) counted old new meant text ready quiet h =
     told_done _ _ old.bytes old new h.bytes meant text tt laws.steps ready quiet h.given h.comes
+asked_done laws (command.Read (word.Keep stop)) counted old new meant text ready quiet h =
+    told_done _ _ old.bytes old new h.bytes meant text tt (laws.keeps stop) ready quiet h.given h.comes
 asked_done laws (command.Gen count) counted old new meant text ready quiet h = gen_done laws.gen count counted.1 old new h.bytes meant text quiet h.comes
 asked_done laws command.Run counted old new meant text ready quiet h =
     told_done _ _ old.bytes old new h.bytes meant text tt laws.runs ready quiet h.given h.comes

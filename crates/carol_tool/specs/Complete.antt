@@ -21,6 +21,7 @@ abbrev pub IsDoable : Command → Option (List ℕ) → Type 0
 IsDoable (command.Read word.Audit) known = Has IsAuditInput known
 IsDoable (command.Read word.Check) known = Has IsCheckInput known
 IsDoable (command.Read word.Step) known = Has IsStepInput known
+IsDoable (command.Read (word.Keep stop)) known = Has IsStepInput known
 IsDoable (command.Gen count) known = Unit {0}
 IsDoable command.Run known = Has IsRunInput known
 

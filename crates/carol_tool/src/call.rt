@@ -11,6 +11,8 @@ ghost use Rattle.carol_tool.specs.Words.{IsCounted, texts, word_meaning};
 use super::command::{Command, Word, command_of};
 use carol_complete::complete_laws;
 use carol_gen::gen_is_ok;
+use carol_keep::keep_bytes;
+use carol_keep_complete::keep_succeeds;
 use carol_outer::{Gate, Sink, Source, read_all, write_all};
 use carol_reply::{Reply, Status, Stop};
 use carol_syntax::MOST_TEXT_BYTES;
@@ -24,7 +26,7 @@ use std::sync::Wait;
 use std::thread::Threads;
 
 // The text of the answer to words that are no command.
-const USAGE: &[u8] = b"usage: carol check, step, run, audit or gen N\n";
+const USAGE: &[u8] = b"usage: carol check, step, run, audit, gen N or keep K\n";
 
 /// Does what the words of a command line say, of which the single word `run` is no part: reads the
 /// source, writes one text to the sink and answers the status. `ReadFault` and `WriteFault` come
@@ -57,6 +59,7 @@ pub fn plain<R: Threads + Sync, S: Source, K: Sink>(
 {
     complete_laws();
     gen_is_ok();
+    keep_succeeds();
     answer_plain(rt, alloc, command_of(words), source, sink)
 }
 
@@ -96,6 +99,7 @@ pub fn carol<R: Threads + Wait + Sync, S: Source, K: Sink, G: Gate + Sync>(
 {
     complete_laws();
     gen_is_ok();
+    keep_succeeds();
     answer_command(rt, alloc, command_of(words), source, sink, gate)
 }
 
@@ -178,6 +182,7 @@ fn word_reply<R: Threads + Sync>(
     match word {
         Word::Audit => audit_bytes(rt, alloc, bytes),
         Word::Check => check_bytes(rt, alloc, bytes),
+        Word::Keep(stop) => keep_bytes(rt, alloc, stop, bytes),
         Word::Step => step_bytes(rt, alloc, bytes),
     }
 }

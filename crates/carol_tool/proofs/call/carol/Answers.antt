@@ -21,6 +21,7 @@ returns-clause-complete g c = completes_as _ _ _ _ _ _ _ c.command_of.ensures (c
     (record {
       checks = c.complete_laws.ensures.checks;
       steps = c.complete_laws.ensures.steps;
+      keeps = c.keep_succeeds.ensures;
       audits = c.complete_laws.ensures.audits;
       runs = c.complete_laws.ensures.runs;
       gen = c.gen_is_ok.ensures.ok;
