@@ -1,8 +1,8 @@
 // Opening a vault for the program and the scene of a house.
-ghost use Rattle.std.specs.Prelude.{◌≡◌, ◌+◌, ◌<◌, ◌≤◌, false, length, IfErr, IfOk};
-ghost use Rattle.carol_disk.specs.Tapes.{seen_of};
+ghost use Rattle.std.specs.Prelude.{◌≡◌, ◌⊎◌, ◌+◌, ◌<◌, ◌≤◌, false, length, IfErr, IfOk};
+ghost use Rattle.carol_disk.specs.Tapes.{kept_after, seen_of};
 ghost use Rattle.carol_house.specs.House.{rules_of};
-ghost use Rattle.carol_vault.specs.Opening.{IsCause, Opens, calls_to_open, disk_of};
+ghost use Rattle.carol_vault.specs.Opening.{IsCause, Opens, StandsFor, calls_to_open, disk_of};
 
 use carol_house::House;
 use carol_vault::{MemoryDisk, OpenCause, OpenFailed, Vault};
@@ -19,6 +19,10 @@ pub(crate) fn open_for(
     ensures open { IfOk result (λ vault. vault.closed ≡ false) }
     ensures err { IfErr result (λ failed.
         IsCause (rules_of house.now) house.now.scene (seen_of disk) failed.cause) }
+    ensures kept { let after = disk_of result in
+        (kept_after after.first after.past ≡ kept_after disk.first disk.past)
+        ⊎ StandsFor (rules_of house.now) house.now.scene (seen_of disk)
+        (kept_after after.first after.past) }
     ensures ticks { IfOk result (λ vault. length vault.disk.past
         ≡ length disk.past + calls_to_open (seen_of disk)) }
     ensures fewer { IfErr result (λ failed. length failed.disk.past
