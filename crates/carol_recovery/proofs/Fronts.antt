@@ -1,5 +1,5 @@
 -- Fronts of a history, and what is found of a file that shows one.
-use Rattle.std.proofs.Common.{◌≡◌, ◌≤◌, ℕ, zero, suc, ◌+◌, ◌-◌, List, [], ◌∷◌, ◌++◌, length, take, drop, refl, sym, ap, subst, ◌∙◌, inr, arith, length-drop, length-take, take-append-drop}
+use Rattle.std.proofs.Common.{◌≡◌, ◌⊎◌, ◌≤◌, ℕ, zero, suc, ◌+◌, ◌-◌, List, [], ◌∷◌, ◌++◌, length, take, drop, refl, sym, ap, subst, ◌∙◌, inl, inr, arith, length-drop, length-take, take-append-drop}
 use Rattle.std.specs.Prelude.{reverse}
 use Rattle.std.proofs.lemmas.List.{length-reverse, reverse-append, reverse-reverse, take_at, take-append-le}
 use Rattle.carol_program.specs.Rules.{Rules}
@@ -53,6 +53,10 @@ damaged_sound at events e = cc
 illegal_sound : (number : ℕ) (events : List Event) → Illegal number ≡ Sound events → ⊥
 illegal_sound number events e = cc
 
+-- the file is said to be damaged, or to have an event that may not come
+abbrev pub IsUnsound : OpenCause → Type 0
+IsUnsound why = ((at : ℕ) × (why ≡ cause.Damaged at)) ⊎ ((number : ℕ) × (why ≡ cause.Illegal number))
+
 -- A history that the program can make, and a file that shows the first events of it.
 pub record ShowsFront (p : Rules) (scene : Scene) (past : List Event) (n : ℕ) (file : List ℕ) : Type 0 where
   pub may : MayRun p scene
@@ -74,13 +78,11 @@ module _ (single : FindingsAreSingle) (shown : ShownIsSound) (p : Rules) (scene 
   front_events events sound = same_sound events (take n (reverse past)) (single p scene file (Sound events) (Sound (take n (reverse past))) sound front_sound)
 
   -- so it is opened, but for a fault or want of memory
-  pub never_damaged : (why : OpenCause) (at : ℕ) → why ≡ cause.Damaged at → IsCause p scene file why → ⊥
-  never_damaged why at is damaged =
+  pub never_unsound : (why : OpenCause) → IsUnsound why → IsCause p scene file why → ⊥
+  never_unsound why (inl (at, is)) damaged =
       damaged_sound at (take n (reverse past))
       (single p scene file (Damaged at) (Sound (take n (reverse past))) (subst (IsCause p scene file) is damaged) front_sound)
-
-  pub never_illegal : (why : OpenCause) (number : ℕ) → why ≡ cause.Illegal number → IsCause p scene file why → ⊥
-  never_illegal why number is illegal =
+  never_unsound why (inr (number, is)) illegal =
       illegal_sound number (take n (reverse past))
       (single p scene file (Illegal number) (Sound (take n (reverse past))) (subst (IsCause p scene file) is illegal) front_sound)
 
