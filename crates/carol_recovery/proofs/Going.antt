@@ -23,10 +23,8 @@ use Rattle.carol_vault.specs.Opening.{IsCause, Opens, StandsFor, calls_to_open}
 use Rattle.carol_vault.specs.Steps.{FailsToKeep, HasNext}
 use Rattle.carol_vault.specs.Vaults.{IsKept, Vaulted, acknowledged, events_of}
 use Rattle.carol_vault_image.specs.Records.{Shows}
-use Rattle.carol_recovery.specs.Counts.{events_kept}
 use Rattle.carol_recovery.specs.Disks.{GivesTo, IsCounted, KeepsFront, KeepsGiven, Makes}
 use Rattle.carol_recovery.proofs.Fronts.{IsUnsound, empty_shows, front_events, front_shows, front_sound, never_unsound}
-use Rattle.carol_recovery.proofs.Numbers.{kept_all, kept_some}
 use Rattle.carol_recovery.proofs.Scripts.{given_line, gives_run, is_front, next_line, whole}
 
 -- The vault has the events of the statements that were carried out, and those that are left come to
@@ -157,34 +155,6 @@ module _ (stop : ℕ) (house : House) where
       given : Gives (rules_of house) house.scene line event v.house.history
       given = of_house (λ p scene. Gives p scene line event v.house.history) house v.house h.kept_is h.scene_is gives
 
-  -- it has room, and the vault is open
-  pub never_full : (line : Statement) (lines : List Statement) (v w : Vaulted Tape) → Going stop house (line ∷ lines) v → FailsToKeep (GivesTo v.house line) v Full w → ⊥
-  never_full line lines v w h fails = absurd (omega (arith, h.few, fails.2))
-
-  pub never_closed : (line : Statement) (lines : List Statement) (v w : Vaulted Tape) → Going stop house (line ∷ lines) v → FailsToKeep (GivesTo v.house line) v Closed w → ⊥
-  never_closed line lines v w h fails = clash (sym h.opened ∙ fails.0)
-    where
-      clash : false ≡ true → ⊥
-      clash e = cc
-
-  -- all of them were
-  pub keeps_all : (v : Vaulted Tape) → Going stop house [] v → Shows (kept_after v.disk.first v.disk.past) (take (acknowledged v) (events_of v.house)) → KeepsFront stop house.history v.disk
-  keeps_all v h shows = record {
-    count = acknowledged v;
-    shows = front_shows (kept_after v.disk.first v.disk.past) house.history front.0 v.house.history (acknowledged v) front.1 (omega (arith, all)) shows;
-    counted = inl (omega (arith, all, long), omega (arith, h.time, long));
-    limit = h.limit;
-  }
-    where
-      front : (more : List Event) × (house.history ≡ more ++ v.house.history)
-      front = is_front (rules_of house) house.scene h.number [] v.house.history (whole house.history) h.comes
-
-      all : acknowledged v ≡ length v.house.history
-      all = ap (λ (b : Bool). length v.house.history - (if b then 1 else 0)) h.opened ∙ omega arith
-
-      long : length house.history ≡ length v.house.history
-      long = ap (λ s. length s.history) h.comes
-
   -- or those before the one at which a call failed
   pub keeps_some : ScriptIsSingle (rules_of house) house.scene → (line : Statement) (lines : List Statement) (v w : Vaulted Tape) → Going stop house (line ∷ lines) v
       → FailsToKeep (GivesTo v.house line) v Fault w → (length v.disk.past ≤ length w.disk.past) × (length w.disk.past < length v.disk.past + 4) → 1 ≤ w.disk.failures
@@ -214,22 +184,3 @@ module _ (stop : ℕ) (house : House) where
 
       all : acknowledged w ≡ length v.house.history
       all = ap (λ (b : Bool). length w.house.history - (if b then 1 else 0)) falters.closes ∙ omega (arith, more)
-
-same_stop : (one other : ℕ) → Some one ≡ Some other → one ≡ other
-same_stop one other e = cc
-
-counted_kept : (stop events count : ℕ) (disk : Tape) → IsCounted disk count events → disk.stop ≡ Some stop → IsWithin disk.stop (length disk.past)
-    → (1 ≤ disk.failures → disk.stop ≡ Some (length disk.past)) → events_kept stop events ≡ count
-counted_kept stop events count disk (inl (all, time)) limit within stopped =
-    let made : length disk.past ≤ stop = subst (λ o. IsWithin o (length disk.past)) limit within in
-    kept_all stop events (omega (arith, made, time)) ∙ sym all
-counted_kept stop events count disk (inr (few, failed, below, above)) limit within stopped =
-    let same : length disk.past ≡ stop = same_stop (length disk.past) stop (sym (stopped failed) ∙ limit) in
-    kept_some stop count events few (omega (arith, below, same)) (subst (λ (n : ℕ). (count ≡ 0) ⊎ (5 + 4 * count ≤ n)) same above)
-
--- after the crash of a disk that failed only because it had stopped
-pub crashed_shows : (stop : ℕ) (past : List Event) (disk after : Tape) → KeepsFront stop past disk → IsWithin disk.stop (length disk.past)
-    → (1 ≤ disk.failures → disk.stop ≡ Some (length disk.past)) → seen_of after ≡ kept_after disk.first disk.past → Shows (seen_of after) (take (events_kept stop (length past)) (reverse past))
-crashed_shows stop past disk after h within stopped seen =
-    subst (λ (n : ℕ). Shows (seen_of after) (take n (reverse past))) (sym (counted_kept stop (length past) h.count disk h.counted h.limit within stopped))
-    (subst (λ (l : List ℕ). Shows l (take h.count (reverse past))) (sym seen) h.shows)

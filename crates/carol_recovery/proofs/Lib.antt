@@ -1,5 +1,5 @@
 pub mod Scripts
-pub mod Numbers
 pub mod Fronts
 pub mod Going
 pub mod Copied
+pub mod Reading
