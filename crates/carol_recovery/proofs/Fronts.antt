@@ -1,5 +1,5 @@
 -- Fronts of a history, and what is found of a file that shows one.
-use Rattle.std.proofs.Common.{◌≡◌, ◌⊎◌, ◌≤◌, ℕ, zero, suc, ◌+◌, ◌-◌, List, [], ◌∷◌, ◌++◌, length, take, drop, refl, sym, ap, subst, ◌∙◌, inl, inr, arith, length-drop, length-take, take-append-drop}
+use Rattle.std.proofs.Common.{◌≡◌, ◌⊎◌, ◌≤◌, ℕ, zero, suc, ◌-◌, List, [], ◌∷◌, ◌++◌, length, take, drop, refl, sym, ap, subst, ◌∙◌, inl, inr, arith, length-drop, length-take, take-append-drop}
 use Rattle.std.specs.Prelude.{reverse}
 use Rattle.std.proofs.lemmas.List.{length-reverse, reverse-append, reverse-reverse, take_at, take-append-le}
 use Rattle.carol_program.specs.Rules.{Rules}
@@ -10,7 +10,7 @@ use Rattle.carol_history.specs.Runs.{Run}
 use Rattle.carol_simulation.specs.Upheld.{MayRun}
 use Rattle.carol_vault.specs.declared.error.OpenCause.{OpenCause}
 use Rattle.carol_vault.specs.declared.error.OpenCause.TheVariants as cause
-use Rattle.carol_vault.specs.Finding.{Finding, Finds, IsDamaged, IsIllegal, IsSound, Sound, Damaged, Illegal}
+use Rattle.carol_vault.specs.Finding.{IsSound, Sound, Damaged, Illegal}
 use Rattle.carol_vault.specs.Laws.{FindingsAreSingle, ShownIsSound}
 use Rattle.carol_vault.specs.Opening.{IsCause}
 use Rattle.carol_vault_image.specs.Records.{Shows}

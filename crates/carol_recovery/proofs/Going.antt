@@ -1,6 +1,6 @@
 -- A vault that is led through a script.
-use Rattle.std.proofs.Common.{◌≡◌, ◌⊎◌, ◌≤◌, ◌<◌, ℕ, ◌+◌, ◌-◌, ◌*◌, Bool, true, false, List, [], ◌∷◌, ◌++◌, length, get_or, take, drop, drop-cons, add-one, refl, sym, ap, subst, ◌∙◌, inl, inr, arith, length-append}
-use Rattle.std.specs.Prelude.{Some, reverse, if◌then◌else◌, Result, Ok, Err}
+use Rattle.std.proofs.Common.{◌≡◌, ◌⊎◌, ◌≤◌, ◌<◌, ℕ, ◌+◌, ◌-◌, ◌*◌, Bool, false, List, [], ◌∷◌, ◌++◌, length, get_or, take, drop, drop-cons, add-one, refl, sym, ap, subst, ◌∙◌, inl, inr, arith, length-append}
+use Rattle.std.specs.Prelude.{Some, reverse, if◌then◌else◌}
 use Rattle.std.proofs.lemmas.List.{reverse-reverse}
 use Rattle.carol_program.specs.Rules.{Rules, rules_in}
 use Rattle.carol_program.specs.declared.scenes.Scene.{Scene}
@@ -14,16 +14,15 @@ use Rattle.carol_history.specs.Runs.{Run}
 use Rattle.carol_history.specs.Scripts.{ComesTo, Gives}
 use Rattle.carol_house.specs.House.{House, IsHistory, rules_of}
 use Rattle.carol_disk.specs.declared.call.Call.{Call}
-use Rattle.carol_disk.specs.Tapes.{Tape, IsWithin, kept_after, seen_after, seen_of}
+use Rattle.carol_disk.specs.Tapes.{Tape, kept_after, seen_after, seen_of}
 use Rattle.carol_vault.specs.declared.error.OpenCause.{OpenCause}
-use Rattle.carol_vault.specs.declared.error.VaultError.TheVariants.{Full, Fault, Closed}
-use Rattle.carol_vault.specs.Finding.{IsSound}
+use Rattle.carol_vault.specs.declared.error.VaultError.TheVariants.{Fault}
 use Rattle.carol_vault.specs.Laws.{FindingsAreSingle, ShownIsSound}
 use Rattle.carol_vault.specs.Opening.{IsCause, Opens, StandsFor, calls_to_open}
 use Rattle.carol_vault.specs.Steps.{FailsToKeep, HasNext}
-use Rattle.carol_vault.specs.Vaults.{IsKept, Vaulted, acknowledged, events_of}
+use Rattle.carol_vault.specs.Vaults.{Vaulted, acknowledged, events_of}
 use Rattle.carol_vault_image.specs.Records.{Shows}
-use Rattle.carol_recovery.specs.Disks.{GivesTo, IsCounted, KeepsFront, KeepsGiven, Makes}
+use Rattle.carol_recovery.specs.Disks.{GivesTo, KeepsFront, KeepsGiven, Makes}
 use Rattle.carol_recovery.proofs.Fronts.{IsUnsound, empty_shows, front_events, front_shows, front_sound, never_unsound}
 use Rattle.carol_recovery.proofs.Scripts.{given_line, gives_run, is_front, next_line, whole}
 

@@ -7,7 +7,10 @@ use carol_history::{Statement, history_laws};
 use carol_vault::{MemoryDisk, Vault, VaultError};
 
 /// Keeps the event that the statement gives.
-pub(crate) fn keep_statement(vault: &mut Vault<MemoryDisk>, line: Statement) -> Result<(), VaultError>
+pub(crate) fn keep_statement(
+    vault: &mut Vault<MemoryDisk>,
+    line: Statement,
+) -> Result<(), VaultError>
     requires { HasNext (GivesTo vault.old.house line) }
     ensures ok { OnOk result (KeepsGiven vault.old line vault.new) }
     ensures err { IfErr result (λ error. FailsToKeep (GivesTo vault.old.house line)

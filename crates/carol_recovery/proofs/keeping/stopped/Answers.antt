@@ -1,4 +1,4 @@
-use Rattle.std.proofs.Common.{◌≡◌, ◌+◌, drop, get_or, sym, ap, subst}
+use Rattle.std.proofs.Common.{◌+◌, drop, get_or, sym, ap, subst}
 use Rattle.std.specs.Prelude.{Err}
 use Rattle.carol_history.specs.declared.script.Statement.TheVariants.{Go}
 use Rattle.carol_house.specs.House.{rules_of}
