@@ -32,12 +32,7 @@ pub fn keep_bytes<R: Threads + Sync>(
 }
 
 // Tells what comes of a file with a script.
-fn history<R: Threads + Sync>(
-    rt: &R,
-    alloc: Global,
-    stop: u32,
-    bytes: &[u8],
-) -> Result<Reply, Halt>
+fn history<R: Threads + Sync>(rt: &R, alloc: Global, stop: u32, bytes: &[u8]) -> Result<Reply, Halt>
     requires { length bytes.now ≤ most_text_bytes }
     ensures { Ends (KeepSays stop bytes.now) result }
 {
