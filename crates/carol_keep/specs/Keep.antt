@@ -1,6 +1,5 @@
 -- What `keep K` means.
 use Rattle.std.specs.Prelude.{◌≡◌, ◌≤◌, ℕ, List, [], Some, None, codes, drop, length}
-use Rattle.carol_event.specs.declared.event.Event.{Event}
 use Rattle.carol_history.specs.declared.history.TheConstants.{MOST_EVENTS}
 use Rattle.carol_history.specs.declared.script.Statement.{Statement}
 use Rattle.carol_history.specs.Runs.{Run}
