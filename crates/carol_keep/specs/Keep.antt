@@ -1,6 +1,5 @@
 -- What `keep K` means.
-use Rattle.std.specs.Prelude.{◌≡◌, ◌≤◌, ℕ, ◌-◌, ◌/◌, min, List, [], Some, None, codes, drop, length}
-use Rattle.carol_event.specs.declared.event.Event.{Event}
+use Rattle.std.specs.Prelude.{◌≡◌, ◌≤◌, ℕ, List, [], Some, None, codes, drop, length}
 use Rattle.carol_history.specs.declared.history.TheConstants.{MOST_EVENTS}
 use Rattle.carol_history.specs.declared.script.Statement.{Statement}
 use Rattle.carol_history.specs.Runs.{Run}
@@ -11,21 +10,13 @@ use Rattle.carol_program.specs.declared.program.Program.{Program}
 use Rattle.carol_program.specs.declared.scenes.Scene.{Scene}
 use Rattle.carol_program.specs.Rules.{Rules, rules_in}
 use Rattle.carol_reading.specs.Kept.{Kept}
+use Rattle.carol_recovery.specs.Counts.{history_kept}
 use Rattle.carol_reply.specs.declared.line.Line.TheVariants as line
 use Rattle.carol_reply.specs.declared.status.Status.TheVariants as status
 use Rattle.carol_reply.specs.Meaning.{Meaning}
 use Rattle.carol_reply.specs.Texts.{Answer, line_answer}
 use Rattle.carol_report.specs.Report.{report_text}
 use Rattle.carol_simulation.specs.Upheld.{Upheld}
-
--- how many of so many events are read back from a disk that stopped at the call with this number:
--- opening a vault takes the first five calls, and keeping an event the next four
-abbrev pub events_kept : ℕ → ℕ → ℕ
-events_kept stop events = min events ((stop - 5) / 4)
-
--- the history of the first events that are read back
-abbrev pub history_kept : ℕ → List Event → List Event
-history_kept stop past = drop (length past - events_kept stop (length past)) past
 
 -- where a script came to this: the report of what is read back of its history, or its first
 -- statement that gives no event

@@ -4,7 +4,6 @@
 //! Layer: program. `carol_tool` calls it where it was asked for this word.
 #![tactic(auto)]
 
-mod keeping;
 mod word;
 
 pub use word::keep_bytes;

@@ -5,11 +5,11 @@ ghost use Rattle.carol_reply.specs.Meaning.{IsReply};
 ghost use Rattle.carol_reply.specs.Reply.{Ends, answer_of};
 ghost use Rattle.carol_syntax.specs.Limits.{most_text_bytes};
 
-use super::keeping::read_back;
 use carol_grammar::one_outcome;
 use carol_history::{MOST_EVENTS, StatementList, history_laws};
 use carol_house::House;
 use carol_prepare::{Placed, accepted, take_script};
+use carol_recovery::read_back;
 use carol_reply::{Halt, Line, Reply, Status, ended, one_line};
 use carol_report::run_script;
 use std::alloc::{AllocError, Global};
@@ -32,12 +32,7 @@ pub fn keep_bytes<R: Threads + Sync>(
 }
 
 // Tells what comes of a file with a script.
-fn history<R: Threads + Sync>(
-    rt: &R,
-    alloc: Global,
-    stop: u32,
-    bytes: &[u8],
-) -> Result<Reply, Halt>
+fn history<R: Threads + Sync>(rt: &R, alloc: Global, stop: u32, bytes: &[u8]) -> Result<Reply, Halt>
     requires { length bytes.now ≤ most_text_bytes }
     ensures { Ends (KeepSays stop bytes.now) result }
 {
@@ -81,7 +76,7 @@ fn keep(
     match bad {
         None => Ok(Reply {
             status: Status::Ok,
-            text: read_back(alloc, stop, house, script)?,
+            text: read_back(alloc, stop, house, script.as_slice())?,
         }),
         Some(bad) => one_line(alloc, Line::BadStatement(bad)),
     }
