@@ -100,13 +100,15 @@ words_done : WordLaws → (asked : Option Command) → IsCounted asked → (old 
 words_done laws None counted old new meant text ready quiet h = absurd ready
 words_done laws (Some asked) counted old new meant text ready quiet h = asked_done laws asked counted old new meant text ready quiet h
 
-pub completes : WordLaws → (asked : Option Command) → IsCounted asked → (source source' sink sink' : End) (answered : Status) → AnsweredBy asked source source' sink sink' answered
+completes : WordLaws → (asked : Option Command) → IsCounted asked → (source source' sink sink' : End) (answered : Status) → AnsweredBy asked source source' sink sink' answered
     → CompletesBy asked source source' sink sink' answered
 completes laws asked counted source source' sink sink' answered h ready read wrote = elim h.wrote.written [
   | inl w ↦ subst IsDone (sym w.0) (words_done laws asked counted source source' h.meant h.text ready read h.means)
   | inr w ↦ absurd (wrote w.1)
 ]
 
-pub completes_as : (one two : Option Command) (source source' sink sink' : End) (answered : Status) → one ≡ two → CompletesBy one source source' sink sink' answered
-    → CompletesBy two source source' sink sink' answered
-completes_as one two source source' sink sink' answered same h = subst (λ asked. CompletesBy asked source source' sink sink' answered) same h
+-- the words are those that name the command
+pub completed : WordLaws → (one two : Option Command) (source source' sink sink' : End) (answered : Status) → one ≡ two → IsCounted one
+    → AnsweredBy one source source' sink sink' answered → CompletesBy two source source' sink sink' answered
+completed laws one two source source' sink sink' answered same counted h =
+    subst (λ asked. CompletesBy asked source source' sink sink' answered) same (completes laws one counted source source' sink sink' answered h)

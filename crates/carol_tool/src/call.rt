@@ -112,7 +112,7 @@ fn answer_command<R: Threads + Wait + Sync, S: Source, K: Sink, G: Gate + Sync>(
     sink: &mut K,
     gate: &G,
 ) -> Status
-    requires { IsCounted command }
+    requires counted { IsCounted command }
     ensures { AnsweredBy command
         (end_of (S.left source.old) (S.faults source.old))
         (end_of (S.left source.new) (S.faults source.new))

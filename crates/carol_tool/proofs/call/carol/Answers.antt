@@ -1,11 +1,11 @@
 use Rattle.carol_tool.specs.Words.{texts}
-use Rattle.carol_tool.proofs.Completing.{completes, completes_as}
+use Rattle.carol_tool.proofs.Completing.{completed}
 use Rattle.carol_tool.proofs.Meaning.{answered_as, read_fault, write_fault}
 use Rattle.carol_tool.proofs.Words.{counted_of}
 use Rattle.carol_tool.proofs.call.carol.Goals as goal
 
-pub answer_command-requires : goal.answer_command-requires
-answer_command-requires g c κs within = counted_of (texts c.args.words.now) c.command_of.result c.command_of.ensures
+pub answer_command-requires-clause-counted : goal.answer_command-requires-clause-counted
+answer_command-requires-clause-counted g c κs within = counted_of (texts c.args.words.now) c.command_of.result c.command_of.ensures
 
 pub returns-clause-answered : goal.returns-clause-answered
 returns-clause-answered g c = answered_as _ _ _ _ _ _ _ c.command_of.ensures c.answer_command.ensures
@@ -17,7 +17,7 @@ pub returns-clause-write_fault : goal.returns-clause-write_fault
 returns-clause-write_fault g c = write_fault _ _ _ _ _ _ c.answer_command.ensures
 
 pub returns-clause-complete : goal.returns-clause-complete
-returns-clause-complete g c = completes_as _ _ _ _ _ _ _ c.command_of.ensures (completes
+returns-clause-complete g c = completed
     (record {
       checks = c.complete_laws.ensures.checks;
       steps = c.complete_laws.ensures.steps;
@@ -26,4 +26,4 @@ returns-clause-complete g c = completes_as _ _ _ _ _ _ _ c.command_of.ensures (c
       runs = c.complete_laws.ensures.runs;
       gen = c.gen_is_ok.ensures.ok;
     })
-    _ (counted_of (texts c.args.words.now) c.command_of.result c.command_of.ensures) _ _ _ _ _ c.answer_command.ensures)
+    _ _ _ _ _ _ _ c.command_of.ensures (counted_of (texts c.args.words.now) c.command_of.result c.command_of.ensures) c.answer_command.ensures
