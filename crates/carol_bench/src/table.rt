@@ -3,7 +3,7 @@ use crate::formulas::formula_of;
 use anyhow::bail;
 use carol_cert::check;
 use carol_decide::{Answer, Why, can_decide, decide};
-use carol_formula::Formula;
+use carol_formula::{Formula, Valuation};
 use std::alloc::Global;
 
 // What is to be answered.
@@ -16,14 +16,20 @@ enum Wanted {
 
 // Whether the answer is the one that is wanted, and its evidence is right.
 fn is_right(formula: &Formula, leaves: u32, answer: &Answer, wanted: Wanted) -> bool {
-    match (answer, wanted) {
-        (Answer::Unsat(tree), Wanted::Unsat) => check(formula, tree),
-        (Answer::Sat(at), Wanted::Sat) => formula.fits(at) && formula.holds(at),
-        (Answer::Undecided(Why::Leaves(tree)), Wanted::Leaves) => {
-            counts_of(tree).turns == u64::from(leaves) && !check(formula, tree)
+    match answer {
+        Answer::Unsat(tree) => matches!(wanted, Wanted::Unsat) && check(formula, tree),
+        Answer::Sat(at) => matches!(wanted, Wanted::Sat) && is_true(formula, at),
+        Answer::Undecided(Why::Leaves(tree)) => {
+            let spent = counts_of(tree).turns == u64::from(leaves);
+            matches!(wanted, Wanted::Leaves) && spent && !check(formula, tree)
         }
-        _ => false,
+        Answer::Undecided(Why::Wide(_) | Why::Far(_)) => false,
     }
+}
+
+// Whether the formula is true at the valuation.
+fn is_true(formula: &Formula, at: &Valuation) -> bool {
+    formula.fits(at) && formula.holds(at)
 }
 
 // Each formula in steps, with the number of turns and what is to be answered. The variables are 0,
