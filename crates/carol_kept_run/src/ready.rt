@@ -1,0 +1,55 @@
+use carol_history::StatementList;
+use carol_parse::{TextError, parse};
+use carol_prepare::{Placed, Scripted, accepted, take_scene, take_script};
+use carol_program::Scene;
+use carol_reading::Accepted;
+use carol_reply::Halt;
+use std::alloc::{AllocError, Global};
+use std::thread::Threads;
+
+// Who asks for the parts of a file.
+const ASKER: &str = "carol_kept";
+
+/// An accepted program in a scene, which is valid for it, with the statements of a script.
+#[derive(Drop)]
+pub struct Ready {
+    /// The program with its table of accords.
+    pub accepted: Accepted,
+    /// The scene.
+    pub scene: Scene,
+    /// The statements, in order; none where there is no script.
+    pub script: StatementList,
+}
+
+/// What the bytes of an input ask for: a program, a scene, and a script if there is one.
+pub fn ready<R: Threads + Sync>(rt: &R, alloc: Global, bytes: &[u8]) -> Result<Ready, Halt> {
+    let Scripted { placed, script } = parts(alloc, bytes)?;
+    let Placed { program, scene } = placed;
+    let accepted = accepted(rt, alloc, program)?;
+    Ok(Ready {
+        accepted,
+        scene,
+        script,
+    })
+}
+
+// The program of a file in its scene, with its script, which is empty where there is none.
+fn parts(alloc: Global, bytes: &[u8]) -> Result<Scripted, Halt> {
+    if has_script(alloc, bytes)? {
+        return take_script(alloc, bytes, ASKER);
+    }
+    let placed = take_scene(alloc, bytes, ASKER)?;
+    Ok(Scripted {
+        placed,
+        script: StatementList::new(alloc),
+    })
+}
+
+// Whether the bytes are a file with a script.
+fn has_script(alloc: Global, bytes: &[u8]) -> Result<bool, AllocError> {
+    match parse(alloc, bytes) {
+        Ok(file) => Ok(file.script.is_some()),
+        Err(TextError::NoMemory) => Err(AllocError),
+        Err(_) => Ok(false),
+    }
+}
