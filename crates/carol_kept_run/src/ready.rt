@@ -1,3 +1,13 @@
+ghost use Rattle.std.specs.Prelude.{◌≤◌, length, codes, IfOk, IfErr};
+ghost use Rattle.carol_grammar.specs.Outcome.{Means, Read};
+ghost use Rattle.carol_kept_run.specs.Asked.{HasScript, IsAsked, Refused, with_any_script};
+ghost use Rattle.carol_prepare.specs.Parts.{HasParts, IsFit, Nothing, PartsSay};
+ghost use Rattle.carol_program.specs.Rules.{rules_in};
+ghost use Rattle.carol_program.specs.Scenes.{IsValidScene};
+ghost use Rattle.carol_reply.specs.Reply.{HaltSays};
+ghost use Rattle.carol_syntax.specs.Files.{FileTree};
+ghost use Rattle.carol_syntax.specs.Limits.{most_text_bytes};
+
 use carol_history::StatementList;
 use carol_parse::{TextError, parse};
 use carol_prepare::{Placed, Scripted, accepted, take_scene, take_script};
@@ -21,8 +31,16 @@ pub struct Ready {
     pub script: StatementList,
 }
 
-/// What the bytes of an input ask for: a program, a scene, and a script if there is one.
-pub fn ready<R: Threads + Sync>(rt: &R, alloc: Global, bytes: &[u8]) -> Result<Ready, Halt> {
+/// What the bytes of an input ask for: a program, a scene, and a script if there is one. What isn't
+/// right is told in the order of `step`.
+pub fn ready<R: Threads + Sync>(rt: &R, alloc: Global, bytes: &[u8]) -> Result<Ready, Halt>
+    requires { length bytes.now ≤ most_text_bytes }
+    ensures asked { IfOk result (IsAsked bytes.now) }
+    ensures valid { IfOk result (λ ready.
+        IsValidScene (rules_in ready.accepted.program) ready.scene) }
+    ensures told { IfErr result (HaltSays
+        (PartsSay (codes "carol_kept") with_any_script Refused bytes.now)) }
+{
     let Scripted { placed, script } = parts(alloc, bytes)?;
     let Placed { program, scene } = placed;
     let accepted = accepted(rt, alloc, program)?;
@@ -34,7 +52,14 @@ pub fn ready<R: Threads + Sync>(rt: &R, alloc: Global, bytes: &[u8]) -> Result<R
 }
 
 // The program of a file in its scene, with its script, which is empty where there is none.
-fn parts(alloc: Global, bytes: &[u8]) -> Result<Scripted, Halt> {
+fn parts(alloc: Global, bytes: &[u8]) -> Result<Scripted, Halt>
+    requires { length bytes.now ≤ most_text_bytes }
+    ensures parts { IfOk result (λ taken. HasParts with_any_script bytes.now taken.script
+        taken.placed.program taken.placed.scene) }
+    ensures fit { IfOk result (λ taken. IsFit taken.placed.program taken.placed.scene) }
+    ensures told { IfErr result (HaltSays
+        (PartsSay (codes "carol_kept") with_any_script Nothing bytes.now)) }
+{
     if has_script(alloc, bytes)? {
         return take_script(alloc, bytes, ASKER);
     }
@@ -46,7 +71,11 @@ fn parts(alloc: Global, bytes: &[u8]) -> Result<Scripted, Halt> {
 }
 
 // Whether the bytes are a file with a script.
-fn has_script(alloc: Global, bytes: &[u8]) -> Result<bool, AllocError> {
+fn has_script(alloc: Global, bytes: &[u8]) -> Result<bool, AllocError>
+    requires { length bytes.now ≤ most_text_bytes }
+    ensures { IfOk result (λ has. (file : FileTree) → Means bytes.now (Read file) →
+        HasScript file has) }
+{
     match parse(alloc, bytes) {
         Ok(file) => Ok(file.script.is_some()),
         Err(TextError::NoMemory) => Err(AllocError),
