@@ -48,8 +48,8 @@ pub fn keep_on<D: Disk + Drop, K: Sink>(
     }
 }
 
-/// Goes on by the script from the history that the vault keeps, and tells what came of it. The lines
-/// of the events are written on the way, each once its event is acknowledged.
+/// Goes on by the script from the history that the vault keeps, and tells what came of it. The
+/// lines of the events are written on the way, each once its event is acknowledged.
 pub fn play<D: Disk, K: Sink>(
     alloc: Global,
     vault: &mut Vault<D>,
