@@ -3,17 +3,16 @@
 #![tactic(auto)]
 
 use carol_file_disk::{FileDisk, open_file};
-use carol_kept_run::{Broken, Ready, keep_on, ready};
+use carol_kept_run::{Broken, Ready, keep_on, prepare};
 use carol_outer::{Sink, StdinSource, StdoutSink, read_all, write_all};
 use carol_reply::{Halt, Reply, Status, Stop, number};
 use carol_syntax::MOST_TEXT_BYTES;
 use std::alloc::Global;
 use std::fs::{File, OpenOptions};
-use std::io;
 use std::process::ExitCode;
 use std::rt::{Env, Files};
 use std::thread::Threads;
-use std::env;
+use std::{env, io};
 
 // The answer to words that are no name of a file.
 const USAGE: &[u8] = b"usage: carol_kept FILE\n";
@@ -54,13 +53,13 @@ fn kept<R: Files<File = File> + Threads + Sync + Input + AllocGlobal, K: Sink>(
         Ok(bytes) => bytes,
         Err(error) => return stopped(sink, Stop::from(error)),
     };
-    let asked = match ready(rt, rt.alloc(), &bytes) {
-        Ok(asked) => asked,
+    let ready = match prepare(rt, rt.alloc(), &bytes) {
+        Ok(ready) => ready,
         Err(Halt::Told(reply)) => return answered(sink, &reply),
         Err(Halt::NoMemory) => return stopped(sink, Stop::NoMemory),
     };
     match disk(rt, path) {
-        Ok(disk) => told(rt.alloc(), disk, asked, sink),
+        Ok(disk) => told(rt.alloc(), disk, ready, sink),
         Err(_) => say(sink, Status::ReadFault, FILE_READ_FAULT),
     }
 }
@@ -76,8 +75,8 @@ fn disk<R: Files<File = File> + AllocGlobal>(rt: &R, path: &str) -> io::Result<F
 }
 
 // Goes on with the history on the disk, and tells what that comes to.
-fn told<K: Sink>(alloc: Global, disk: FileDisk<File>, asked: Ready, sink: &mut K) -> Status {
-    match keep_on(alloc, disk, asked, sink) {
+fn told<K: Sink>(alloc: Global, disk: FileDisk<File>, ready: Ready, sink: &mut K) -> Status {
+    match keep_on(alloc, disk, ready, sink) {
         Ok(reply) => answered(sink, &reply),
         Err(Broken::Disk) => say(sink, Status::WriteFault, FILE_WRITE_FAULT),
         Err(Broken::NoMemory) => stopped(sink, Stop::NoMemory),

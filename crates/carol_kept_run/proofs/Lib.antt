@@ -1,3 +1,4 @@
 pub mod Growth
 pub mod Playings
+pub mod Stepping
 pub mod Askings

@@ -1,9 +1,9 @@
 -- A script on a vault, one statement after the other.
 use Rattle.std.proofs.Common.{◌≡◌, ◌≤◌, ◌<◌, ℕ, ◌+◌, zero, suc, false, List, [], ◌∷◌, ◌++◌, length, take, drop, get_or, drop-cons, inl, inr, refl, sym, ◌∙◌, ap, subst, arith, add-one}
 use Rattle.std.specs.Prelude.{Option, Some, None}
-use Rattle.std.proofs.lemmas.List.{append-nil, take_all, take-append-drop, length-append, length-take-le}
+use Rattle.std.proofs.lemmas.List.{take_all, take-append-drop}
 use Rattle.carol_disk.specs.Disk.{LeavesOnly}
-use Rattle.carol_disk.proofs.Moments.{started, then, weaker}
+use Rattle.carol_disk.proofs.Moments.{then, weaker}
 use Rattle.carol_event.specs.declared.event.Event.{Event}
 use Rattle.carol_history.specs.declared.script.BadStatement.{BadStatement}
 use Rattle.carol_history.specs.declared.script.ScriptCause.{ScriptCause}
@@ -13,8 +13,10 @@ use Rattle.carol_house.specs.House.{House, IsOverSame, rules_of}
 use Rattle.carol_program.specs.Rules.{Rules}
 use Rattle.carol_program.specs.declared.scenes.Scene.{Scene}
 use Rattle.carol_report.specs.Plays.{Plays}
-use Rattle.carol_kept_run.specs.Going.{Ends, Fills, HasEvent}
 use Rattle.carol_house.specs.Moves.{IsFull}
+use Rattle.carol_vault.specs.Vaults.{Holds}
+use Rattle.carol_kept_run.specs.Going.{Fills, HasEvent, IsLater}
+use Rattle.carol_kept_run.proofs.Growth.{holds_later, later_self}
 
 -- what a script has come to without a bad statement
 abbrev so_far : List Event → Scripted
@@ -127,3 +129,10 @@ fills first lines index line more now h here gives full = record {
 -- ---- what a crash leaves
 
 module _ {D : Type 0} (moment : D → ℕ) (left_since : D → ℕ → List ℕ → Type 0) where
+  -- one part after the other, while the history grows
+  pub crash_more : (old mid new : D) (least more : ℕ) (now later : House) → least ≤ more → IsLater now.history later.history → LeavesOnly moment left_since old mid (Holds least now)
+      → LeavesOnly moment left_since mid new (Holds more later) → LeavesOnly moment left_since old new (Holds least later)
+  crash_more old mid new least more now later le grown first second =
+      then moment left_since old mid new (Holds least later)
+      (weaker moment left_since old mid (Holds least now) (Holds least later) (λ c h. holds_later least least now later c (omega arith) grown h) first)
+      (weaker moment left_since mid new (Holds more later) (Holds least later) (λ c h. holds_later least more later later c le (later_self later.history) h) second)

@@ -13,7 +13,7 @@ mod script;
 mod statement;
 
 pub use ending::{Broken, Ending, Made};
-pub use ready::{Ready, ready};
+pub use ready::{Ready, prepare};
 pub use run::{keep_on, play};
 pub use script::keep_script;
 pub use statement::keep_statement;

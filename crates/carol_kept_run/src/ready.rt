@@ -33,7 +33,7 @@ pub struct Ready {
 
 /// What the bytes of an input ask for: a program, a scene, and a script if there is one. What isn't
 /// right is told in the order of `step`.
-pub fn ready<R: Threads + Sync>(rt: &R, alloc: Global, bytes: &[u8]) -> Result<Ready, Halt>
+pub fn prepare<R: Threads + Sync>(rt: &R, alloc: Global, bytes: &[u8]) -> Result<Ready, Halt>
     requires { length bytes.now ≤ most_text_bytes }
     ensures asked { IfOk result (IsAsked bytes.now) }
     ensures valid { IfOk result (λ ready.
