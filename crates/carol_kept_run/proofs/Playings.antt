@@ -1,6 +1,6 @@
 -- A script on a vault, one statement after the other.
 use Rattle.std.proofs.Common.{◌≡◌, ◌≤◌, ◌<◌, ℕ, ◌+◌, zero, suc, false, List, [], ◌∷◌, ◌++◌, length, take, drop, get_or, drop-cons, inl, inr, refl, sym, ◌∙◌, ap, subst, arith, add-one}
-use Rattle.std.specs.Prelude.{Option, Some, None}
+use Rattle.std.specs.Prelude.{Option, Some, None, reverse}
 use Rattle.std.proofs.lemmas.List.{take_all, take-append-drop}
 use Rattle.carol_disk.specs.Disk.{LeavesOnly}
 use Rattle.carol_disk.proofs.Moments.{then, weaker}
@@ -14,8 +14,9 @@ use Rattle.carol_program.specs.Rules.{Rules}
 use Rattle.carol_program.specs.declared.scenes.Scene.{Scene}
 use Rattle.carol_report.specs.Plays.{Plays}
 use Rattle.carol_house.specs.Moves.{IsFull}
-use Rattle.carol_vault.specs.Vaults.{Holds}
+use Rattle.carol_vault.specs.Vaults.{Holds, Vaulted, acknowledged}
 use Rattle.carol_kept_run.specs.Going.{Fills, HasEvent, IsLater}
+use Rattle.carol_kept_run.specs.Telling.{Tells}
 use Rattle.carol_kept_run.proofs.Growth.{holds_later, later_self}
 
 -- what a script has come to without a bad statement
@@ -136,3 +137,17 @@ module _ {D : Type 0} (moment : D → ℕ) (left_since : D → ℕ → List ℕ 
       then moment left_since old mid new (Holds least later)
       (weaker moment left_since old mid (Holds least now) (Holds least later) (λ c h. holds_later least least now later c (omega arith) grown h) first)
       (weaker moment left_since mid new (Holds more later) (Holds least later) (λ c h. holds_later least more later later c le (later_self later.history) h) second)
+
+-- what holds while a script is carried out on a vault, of which the first statements gave an event
+-- each: their lines were told, and each moment left a front of the history
+pub record Keeping {D K : Type 0} (moment : D → ℕ) (left_since : D → ℕ → List ℕ → Type 0) (disk_faults : D → ℕ) (taken : K → Option (List ℕ)) (sink_faults : K → ℕ)
+    (first : Vaulted D) (lines : List Statement) (index : ℕ) (sink_first sink_now : K) (now : Vaulted D) : Type 0 where
+  pub stays_open : now.closed ≡ false
+  pub playing : Playing first.house lines index now.house
+  pub tells : Tells first.house.history now.house.history (taken sink_first) (taken sink_now)
+  pub any_moment : LeavesOnly moment left_since first.disk now.disk (Holds (acknowledged first) now.house)
+  pub disk_counted : disk_faults first.disk ≤ disk_faults now.disk
+  pub sink_counted : sink_faults sink_first ≤ sink_faults sink_now
+
+pub tells_later : (old new : List Event) (before after : Option (List ℕ)) → Tells old new before after → IsLater old new
+tells_later old new before after tells = (reverse tells.events, tells.come)

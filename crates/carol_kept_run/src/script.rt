@@ -41,6 +41,7 @@ pub fn keep_script<D: Disk, K: Sink>(
     ensures disk_counted { D.faults vault.old.disk ≤ D.faults vault.new.disk }
     ensures sink_counted { K.faults sink.old ≤ K.faults sink.new }
 {
+    let _kept = vault.house();
     for (index, line) in script.iter().enumerate() {
         match keep_statement(vault, *line)? {
             Made::Event => tell_latest(alloc, vault.house(), sink)?,
