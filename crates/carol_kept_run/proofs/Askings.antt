@@ -1,6 +1,7 @@
 -- What an input is found to ask for.
 use Rattle.std.proofs.Common.{◌≡◌, ℕ, List, [], Bool, true, false, refl, sym, ap, subst}
-use Rattle.std.specs.Prelude.{map, Option, Some, None, IsNone, IsSome}
+use Rattle.std.specs.Prelude.{map, Option, Some, None, is_some}
+use Rattle.carol_grammar.specs.declared.limit.TextLimit.{TextLimit}
 use Rattle.carol_grammar.specs.Outcome.{Outcome, Read, Bad, Large, Means}
 use Rattle.carol_history.specs.declared.script.Statement.{Statement}
 use Rattle.carol_prepare.specs.Bytes.{BytesSay, OutcomeSays}
@@ -16,12 +17,17 @@ use Rattle.carol_syntax.specs.declared.scenes.ScriptLine.{ScriptLine}
 use Rattle.carol_syntax.specs.Files.{FileTree, ProgramTree}
 use Rattle.carol_kept_run.specs.Asked.{HasScript, any_script, with_any_script}
 
+no_true : false ≡ true → ⊥
+no_true e = cc
+
+no_false : true ≡ false → ⊥
+no_false e = cc
 
 -- ---- with a script
 
-some_parts : (scene : Option SceneDecl) (script : Option (List ScriptLine)) (tail : Option ℕ) → IsSome script → any_script scene script tail ≡ script_part scene script
-some_parts None None tail h = absurd h
-some_parts (Some scene) None tail h = absurd h
+some_parts : (scene : Option SceneDecl) (script : Option (List ScriptLine)) (tail : Option ℕ) → is_some script ≡ true → any_script scene script tail ≡ script_part scene script
+some_parts None None tail h = absurd (no_true h)
+some_parts (Some scene) None tail h = absurd (no_true h)
 some_parts None (Some script) tail h = refl
 some_parts (Some scene) (Some script) tail h = refl
 
@@ -51,10 +57,10 @@ told_with bytes word halt has =
 
 -- ---- without
 
-takes_none : (tree : ProgramTree) (scene : Option SceneDecl) (script : Option (List ScriptLine)) (tail : Option ℕ) (program : Program) (place : Scene) → IsNone script
+takes_none : (tree : ProgramTree) (scene : Option SceneDecl) (script : Option (List ScriptLine)) (tail : Option ℕ) (program : Program) (place : Scene) → is_some script ≡ false
     → AreTaken tree (scene_part scene script tail) tt program place → AreTaken tree (any_script scene script tail) [] program place
-takes_none tree None (Some script) tail program place none h = absurd none
-takes_none tree (Some scene) (Some script) tail program place none h = absurd none
+takes_none tree None (Some script) tail program place none h = absurd (no_false none)
+takes_none tree (Some scene) (Some script) tail program place none h = absurd (no_false none)
 takes_none tree None None tail program place none h = absurd h
 takes_none tree (Some scene) None (Some at) program place none h = absurd h
 takes_none tree (Some scene) None None program place none h = (refl, h.1)
@@ -67,10 +73,10 @@ has_none bytes program scene has h = record {
   taken = takes_none h.file.program h.file.scene h.file.script h.file.tail program scene (has h.file h.read) h.taken;
 }
 
-says_none : (word : List ℕ) (tree : ProgramTree) (scene : Option SceneDecl) (script : Option (List ScriptLine)) (tail : Option ℕ) (answer : Answer) → IsNone script
+says_none : (word : List ℕ) (tree : ProgramTree) (scene : Option SceneDecl) (script : Option (List ScriptLine)) (tail : Option ℕ) (answer : Answer) → is_some script ≡ false
     → TakesSay word Nothing tree (scene_part scene script tail) answer → TakesSay word Nothing tree (any_script scene script tail) answer
-says_none word tree None (Some script) tail answer none h = absurd none
-says_none word tree (Some scene) (Some script) tail answer none h = absurd none
+says_none word tree None (Some script) tail answer none h = absurd (no_false none)
+says_none word tree (Some scene) (Some script) tail answer none h = absurd (no_false none)
 says_none word tree None None tail answer none h = h
 says_none word tree (Some scene) None (Some at) answer none h = h
 says_none word tree (Some scene) None None answer none h = h
@@ -86,3 +92,24 @@ pub told_none : (bytes word : List ℕ) (halt : Halt) → ((file : FileTree) →
 told_none bytes word halt has =
     halt_map (PartsSay word scene_alone Nothing bytes) (PartsSay word with_any_script Nothing bytes)
     (λ answer h. (h.0, h.1, said_none bytes has word h.0 answer h.1 h.2)) halt
+
+-- ---- what is said of one file is said of each that the bytes are
+
+read_same : (one other : FileTree) → Read one ≡ Read other → one ≡ other
+read_same one other e = cc
+
+not_bad : (file : FileTree) (row column : ℕ) → Read file ≡ Bad row column → ⊥
+not_bad file row column e = cc
+
+not_large : (file : FileTree) (limit : TextLimit) → Read file ≡ Large limit → ⊥
+not_large file limit e = cc
+
+pub has_only : (bytes : List ℕ) (file : FileTree) (has : Bool) → ((other : Outcome) → Means bytes other → other ≡ Read file) → HasScript file has → (other : FileTree) → Means bytes (Read other)
+    → HasScript other has
+has_only bytes file has only h other means = subst (λ (x : FileTree). HasScript x has) (sym (read_same other file (only (Read other) means))) h
+
+pub bad_only : (bytes : List ℕ) (row column : ℕ) (has : Bool) → ((other : Outcome) → Means bytes other → other ≡ Bad row column) → (file : FileTree) → Means bytes (Read file) → HasScript file has
+bad_only bytes row column has only file means = absurd (not_bad file row column (only (Read file) means))
+
+pub large_only : (bytes : List ℕ) (limit : TextLimit) (has : Bool) → ((other : Outcome) → Means bytes other → other ≡ Large limit) → (file : FileTree) → Means bytes (Read file) → HasScript file has
+large_only bytes limit has only file means = absurd (not_large file limit (only (Read file) means))

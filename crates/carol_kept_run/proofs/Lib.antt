@@ -1,4 +1,3 @@
 pub mod Growth
 pub mod Playings
-pub mod Stepping
 pub mod Askings

@@ -1,6 +1,6 @@
 -- A script on a vault, one statement after the other.
 use Rattle.std.proofs.Common.{◌≡◌, ◌≤◌, ◌<◌, ℕ, ◌+◌, zero, suc, false, List, [], ◌∷◌, ◌++◌, length, take, drop, get_or, drop-cons, inl, inr, refl, sym, ◌∙◌, ap, subst, arith, add-one}
-use Rattle.std.specs.Prelude.{Option, Some, None, reverse}
+use Rattle.std.specs.Prelude.{Option, Some, None, reverse, Result, Ok, Err, IfOk, OnOk}
 use Rattle.std.proofs.lemmas.List.{take_all, take-append-drop}
 use Rattle.carol_disk.specs.Disk.{LeavesOnly}
 use Rattle.carol_disk.proofs.Moments.{then, weaker}
@@ -12,12 +12,19 @@ use Rattle.carol_history.specs.Scripts.{ComesTo, Fails, Gives, Scripted}
 use Rattle.carol_house.specs.House.{House, IsOverSame, rules_of}
 use Rattle.carol_program.specs.Rules.{Rules}
 use Rattle.carol_program.specs.declared.scenes.Scene.{Scene}
+use Rattle.carol_reading.specs.Kept.{Kept}
+use Rattle.carol_reply.specs.declared.reply.Reply.{Reply}
+use Rattle.carol_reply.specs.Reply.{answer_of}
 use Rattle.carol_report.specs.Plays.{Plays}
+use Rattle.carol_vault.specs.Opening.{Opens}
 use Rattle.carol_house.specs.Moves.{IsFull}
 use Rattle.carol_vault.specs.Vaults.{Holds, Vaulted, acknowledged}
-use Rattle.carol_kept_run.specs.Going.{Fills, HasEvent, IsLater}
-use Rattle.carol_kept_run.specs.Telling.{Tells}
-use Rattle.carol_kept_run.proofs.Growth.{holds_later, later_self}
+use Rattle.carol_kept_run.specs.declared.ending.Broken.{Broken}
+use Rattle.carol_kept_run.specs.declared.ending.Broken.TheVariants as broken
+use Rattle.carol_kept_run.specs.declared.ending.Made.TheVariants as made
+use Rattle.carol_kept_run.specs.Going.{FailsToYield, Fills, GoesOn, HasEvent, IsLater, KeptSays, Yields}
+use Rattle.carol_kept_run.specs.Telling.{Tells, TellsLatest, TellsLatestPart, TellsPart, acknowledged_part}
+use Rattle.carol_kept_run.proofs.Growth.{holds_later, later_more, later_same, later_self, open_part, part_more, part_whole, tells_more}
 
 -- what a script has come to without a bad statement
 abbrev so_far : List Event → Scripted
@@ -69,7 +76,11 @@ front_more [] (suc index) line more is = absurd (none is)
     none : [] ≡ line ∷ more → ⊥
     none e = cc
 front_more (first ∷ lines) zero line more is = ap (λ (l : List Statement). take 1 l) is
-front_more (first ∷ lines) (suc index) line more is = ap (λ (l : List Statement). first ∷ l) (front_more lines index line more is)
+front_more (first ∷ lines) (suc index) line more is =
+    subst (λ (n : ℕ). take n (first ∷ lines) ≡ first ∷ (take index lines ++ line ∷ [])) same (ap (λ (l : List Statement). first ∷ l) (front_more lines index line more is))
+  where
+    same : suc (index + 1) ≡ suc index + 1
+    same = omega arith
 
 -- one statement more gave an event
 pub goes_on : (first : House) (lines : List Statement) (index : ℕ) (line : Statement) (more : List Statement) (now new : House) (given : Event) → Playing first lines index now
@@ -151,3 +162,77 @@ pub record Keeping {D K : Type 0} (moment : D → ℕ) (left_since : D → ℕ �
 
 pub tells_later : (old new : List Event) (before after : Option (List ℕ)) → Tells old new before after → IsLater old new
 tells_later old new before after tells = (reverse tells.events, tells.come)
+
+-- ---- a statement on a vault
+
+module _ {D : Type 0} where
+  -- where it broke off, what was acknowledged is what had come before
+  kept_part : (now new : Vaulted D) (line : Statement) (error : Broken) → now.closed ≡ false → FailsToYield now line error new → acknowledged_part new ≡ now.house.history
+  kept_part now new line broken.Disk is_open (given, gives, falters) = rw falters.closes (ap (λ (l : List Event). drop 1 l) falters.enters.history)
+  kept_part now new line broken.Sink is_open h = absurd h
+  kept_part now new line broken.NoMemory is_open (event, waits) = rw (waits.closed ∙ is_open) waits.house.history
+
+  pub fails_later : (now new : Vaulted D) (line : Statement) (error : Broken) → FailsToYield now line error new → IsLater now.house.history new.house.history
+  fails_later now new line broken.Disk (given, gives, falters) = later_more now.house.history new.house.history given falters.enters.history
+  fails_later now new line broken.Sink h = absurd h
+  fails_later now new line broken.NoMemory (event, waits) = later_same now.house.history new.house.history waits.house.history
+
+  pub part_kept : (first now new : Vaulted D) (line : Statement) (error : Broken) (before after : Option (List ℕ)) → now.closed ≡ false → FailsToYield now line error new
+      → Tells first.house.history now.house.history before after → TellsPart first.house.history (acknowledged_part new) before after
+  part_kept first now new line error before after is_open fails tells =
+      subst (λ (l : List Event). TellsPart first.house.history l before after) (sym (kept_part now new line error is_open fails))
+      (part_whole first.house.history now.house.history before after tells)
+
+  pub yields_later : (now new : Vaulted D) (line : Statement) → Yields now line made.Event new → IsLater now.house.history new.house.history
+  yields_later now new line ((given, gives, over, grown), stays) = later_more now.house.history new.house.history given grown
+
+  -- its event came, and its line was told in part
+  pub part_told : (first now new : Vaulted D) (house : House) (line : Statement) (before after last : Option (List ℕ)) → Yields now line made.Event new → house ≡ new.house
+      → Tells first.house.history now.house.history before after → TellsLatestPart house.history after last → TellsPart first.house.history (acknowledged_part new) before last
+  part_told first now new house line before after last ((given, gives, over, grown), stays) same tells told =
+      let part : TellsLatestPart (given ∷ now.house.history) after last
+      = subst (λ (l : List Event). TellsLatestPart l after last) (ap (λ (h : House). h.history) same ∙ grown) told in
+      subst (λ (l : List Event). TellsPart first.house.history l before last) (sym (open_part new stays))
+      (part_more first.house.history now.house.history new.house.history given before after last part.0 tells grown part.1)
+
+  -- or whole
+  pub tells_told : (first now new : Vaulted D) (house : House) (line : Statement) (before after last : Option (List ℕ)) → Yields now line made.Event new → house ≡ new.house
+      → Tells first.house.history now.house.history before after → TellsLatest house.history after last → Tells first.house.history new.house.history before last
+  tells_told first now new house line before after last ((given, gives, over, grown), stays) same tells told =
+      let whole : TellsLatest (given ∷ now.house.history) after last
+      = subst (λ (l : List Event). TellsLatest l after last) (ap (λ (h : House). h.history) same ∙ grown) told in
+      tells_more first.house.history now.house.history new.house.history given before after last tells grown whole
+
+  -- nothing came
+  pub part_same : (first now new : Vaulted D) (before after : Option (List ℕ)) → now.closed ≡ false → new ≡ now → Tells first.house.history now.house.history before after
+      → TellsPart first.house.history (acknowledged_part new) before after
+  part_same first now new before after is_open same tells =
+      subst (λ (l : List Event). TellsPart first.house.history l before after) (sym (ap acknowledged_part same ∙ open_part now is_open))
+      (part_whole first.house.history now.house.history before after tells)
+
+  pub same_part : (first now new : Vaulted D) (before after : Option (List ℕ)) (line : Statement) (cause : ScriptCause) → now.closed ≡ false → Yields now line (made.Silent cause) new
+      → Tells first.house.history now.house.history before after → TellsPart first.house.history (acknowledged_part new) before after
+  same_part first now new before after line cause is_open (fails, same) tells = part_same first now new before after is_open same tells
+
+  pub full_part : (first now new : Vaulted D) (before after : Option (List ℕ)) (line : Statement) → now.closed ≡ false → Yields now line made.Full new
+      → Tells first.house.history now.house.history before after → TellsPart first.house.history (acknowledged_part new) before after
+  full_part first now new before after line is_open (event, full, same) tells = part_same first now new before after is_open same tells
+
+  pub playing_more : (first now new : Vaulted D) (lines : List Statement) (index : ℕ) (blank : Statement) → index < length lines → Playing first.house lines index now.house
+      → Yields now (get_or lines index blank) made.Event new → Playing first.house lines (index + 1) new.house
+  playing_more first now new lines index blank inside playing ((given, gives, over, grown), stays) =
+      goes_on first.house lines index (get_or lines index blank) _ now.house new.house given playing (drop-cons lines index blank inside) gives over grown
+
+  pub plays_bad : (first now new : Vaulted D) (lines : List Statement) (index : ℕ) (blank : Statement) (cause : ScriptCause) → index < length lines → Playing first.house lines index now.house
+      → Yields now (get_or lines index blank) (made.Silent cause) new → Plays first.house lines new.house (Some (record { number = index + 1; cause = cause }))
+  plays_bad first now new lines index blank cause inside playing (fails, same) =
+      subst (λ (v : Vaulted D). Plays first.house lines v.house (Some (record { number = index + 1; cause = cause }))) (sym same)
+      (stops first.house lines index (index + 1) (get_or lines index blank) _ now.house cause playing (drop-cons lines index blank inside) refl fails)
+
+-- ---- a whole run on a file
+
+pub kept_says : (kept : Kept) (scene : Scene) (lines : List Statement) (file : List ℕ) (old new : House) (before after : Option (List ℕ)) (r : Result Reply Broken) → Opens kept scene file old
+    → (given : List Statement) → given ≡ lines → IfOk r (λ reply. GoesOn old given new (answer_of reply)) → OnOk r (Tells old.history new.history before after) → IfOk r (λ reply. KeptSays kept scene lines file before after (answer_of reply))
+kept_says kept scene lines file old new before after (Err error) opens given is goes tells = tt
+kept_says kept scene lines file old new before after (Ok reply) opens given is goes tells =
+    inr (inr (record { old = old; opens = opens; new = new; goes_on = subst (λ (l : List Statement). GoesOn old l new (answer_of reply)) is goes; tells = tells }))

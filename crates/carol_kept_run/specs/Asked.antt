@@ -1,5 +1,5 @@
 -- What an input asks for.
-use Rattle.std.specs.Prelude.{ℕ, Bool, true, false, List, [], map, Option, Some, None, IsNone, IsSome}
+use Rattle.std.specs.Prelude.{◌≡◌, ℕ, Bool, List, [], map, Option, Some, None, is_some}
 use Rattle.carol_accept.specs.Refusals.{IsKeptAs}
 use Rattle.carol_history.specs.declared.script.Statement.{Statement}
 use Rattle.carol_kept_run.specs.declared.ready.Ready.{Ready}
@@ -25,8 +25,7 @@ with_any_script file = any_script file.scene file.script file.tail
 
 -- whether a file has a script
 abbrev pub HasScript : FileTree → Bool → Type 0
-HasScript file true = IsSome file.script
-HasScript file false = IsNone file.script
+HasScript file has = is_some file.script ≡ has
 
 -- the bytes are a file with these parts, whose program is accepted and kept so
 pub record IsAsked (bytes : List ℕ) (ready : Ready) : Type 0 where

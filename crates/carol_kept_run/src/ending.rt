@@ -1,3 +1,5 @@
+ghost use Rattle.std.specs.Prelude.{◌≡◌};
+
 use carol_history::{BadStatement, ScriptCause};
 use carol_vault::VaultError;
 use std::alloc::AllocError;

@@ -5,15 +5,16 @@ ghost use Rattle.carol_prepare.specs.Parts.{HasParts, IsFit, Nothing, PartsSay};
 ghost use Rattle.carol_program.specs.Rules.{rules_in};
 ghost use Rattle.carol_program.specs.Scenes.{IsValidScene};
 ghost use Rattle.carol_reply.specs.Reply.{HaltSays};
-ghost use Rattle.carol_syntax.specs.Files.{FileTree};
+ghost use Rattle.carol_syntax.specs.Files.{FileTree, file_tree};
 ghost use Rattle.carol_syntax.specs.Limits.{most_text_bytes};
 
 use carol_history::StatementList;
 use carol_parse::{TextError, parse};
-use carol_prepare::{Placed, Scripted, accepted, take_scene, take_script};
+use carol_prepare::{Scripted, accepted, take_scene, take_script};
 use carol_program::Scene;
 use carol_reading::Accepted;
 use carol_reply::Halt;
+use carol_syntax::File;
 use std::alloc::{AllocError, Global};
 use std::thread::Threads;
 
@@ -41,13 +42,12 @@ pub fn prepare<R: Threads + Sync>(rt: &R, alloc: Global, bytes: &[u8]) -> Result
     ensures told { IfErr result (HaltSays
         (PartsSay (codes "carol_kept") with_any_script Refused bytes.now)) }
 {
-    let Scripted { placed, script } = parts(alloc, bytes)?;
-    let Placed { program, scene } = placed;
-    let accepted = accepted(rt, alloc, program)?;
+    let taken = parts(alloc, bytes)?;
+    let accepted = accepted(rt, alloc, taken.placed.program)?;
     Ok(Ready {
         accepted,
-        scene,
-        script,
+        scene: taken.placed.scene,
+        script: taken.script,
     })
 }
 
@@ -77,8 +77,16 @@ fn has_script(alloc: Global, bytes: &[u8]) -> Result<bool, AllocError>
         HasScript file has) }
 {
     match parse(alloc, bytes) {
-        Ok(file) => Ok(file.script.is_some()),
+        Ok(file) => Ok(is_scripted(&file)),
+        Err(TextError::Bad { .. }) => Ok(false),
+        Err(TextError::TooLarge(_)) => Ok(false),
         Err(TextError::NoMemory) => Err(AllocError),
-        Err(_) => Ok(false),
     }
+}
+
+// Whether the file has a script.
+fn is_scripted(file: &File) -> bool
+    ensures { HasScript (file_tree file.now) result }
+{
+    file.script.is_some()
 }
