@@ -1,9 +1,13 @@
 -- What an input is found to ask for.
 use Rattle.std.proofs.Common.{◌≡◌, ℕ, List, [], Bool, true, false, refl, sym, ap, subst}
-use Rattle.std.specs.Prelude.{map, Option, Some, None, is_some}
+use Rattle.std.specs.Prelude.{map, Option, Some, None, is_some, Result, Ok, Err, IfOk}
+use Rattle.carol_accept.specs.Refusals.{IsKeptAs}
 use Rattle.carol_grammar.specs.declared.limit.TextLimit.{TextLimit}
 use Rattle.carol_grammar.specs.Outcome.{Outcome, Read, Bad, Large, Means}
 use Rattle.carol_history.specs.declared.script.Statement.{Statement}
+use Rattle.carol_parse.specs.Answer.{IsOnlyMeant}
+use Rattle.carol_parse.specs.declared.error.TextError.{TextError}
+use Rattle.carol_parse.specs.declared.error.TextError.TheVariants as text
 use Rattle.carol_prepare.specs.Bytes.{BytesSay, OutcomeSays}
 use Rattle.carol_prepare.specs.Parts.{AreTaken, HasParts, Nothing, PartsSay, TakesSay, scene_alone, scene_part, script_part, with_script}
 use Rattle.carol_program.specs.declared.program.Program.{Program}
@@ -15,7 +19,8 @@ use Rattle.carol_reply.proofs.Agreeing.{halt_map}
 use Rattle.carol_syntax.specs.declared.scenes.SceneDecl.{SceneDecl}
 use Rattle.carol_syntax.specs.declared.scenes.ScriptLine.{ScriptLine}
 use Rattle.carol_syntax.specs.Files.{FileTree, ProgramTree}
-use Rattle.carol_kept_run.specs.Asked.{HasScript, any_script, with_any_script}
+use Rattle.carol_kept_run.specs.declared.ready.Ready.{Ready}
+use Rattle.carol_kept_run.specs.Asked.{HasScript, IsAsked, any_script, with_any_script}
 
 no_true : false ≡ true → ⊥
 no_true e = cc
@@ -113,3 +118,23 @@ bad_only bytes row column has only file means = absurd (not_bad file row column 
 
 pub large_only : (bytes : List ℕ) (limit : TextLimit) (has : Bool) → ((other : Outcome) → Means bytes other → other ≡ Large limit) → (file : FileTree) → Means bytes (Read file) → HasScript file has
 large_only bytes limit has only file means = absurd (not_large file limit (only (Read file) means))
+
+-- what isn't read is no file
+pub none_only : {E : Type 0} (bytes : List ℕ) (error : TextError) (r : Result Bool E) → IsOnlyMeant bytes (Err error) → IfOk r (λ _. error ≡ text.NoMemory → ⊥)
+    → IfOk r (λ has. (file : FileTree) → Means bytes (Read file) → HasScript file has)
+none_only bytes error (Err failed) only other = tt
+none_only bytes (text.Bad row column) (Ok has) only other = bad_only bytes row column has only
+none_only bytes (text.TooLarge limit) (Ok has) only other = large_only bytes limit has only
+none_only bytes text.NoMemory (Ok has) only other = absurd (other refl)
+
+-- ---- what is asked for
+
+pub asked_of : (bytes : List ℕ) (program : Program) (scene : Scene) (script : List Statement) (r : Result Ready Halt) → HasParts with_any_script bytes script program scene
+    → IfOk r (λ ready. IsKeptAs program ready.accepted) → IfOk r (λ ready. ready.scene ≡ scene) → IfOk r (λ ready. ready.script ≡ script) → IfOk r (IsAsked bytes)
+asked_of bytes program scene script (Err halt) has kept scene_is script_is = tt
+asked_of bytes program scene script (Ok ready) has kept scene_is script_is = record {
+  program = program;
+  parts = subst (λ (l : List Statement). HasParts with_any_script bytes l program ready.scene) (sym script_is)
+      (subst (λ (s : Scene). HasParts with_any_script bytes script program s) (sym scene_is) has);
+  is_kept = kept;
+}

@@ -1,7 +1,9 @@
-ghost use Rattle.std.specs.Prelude.{◌≤◌, length, codes, IfOk, IfErr};
+ghost use Rattle.std.specs.Prelude.{◌≡◌, ◌≤◌, length, codes, IfOk, IfErr};
+ghost use Rattle.carol_accept.specs.Refusals.{IsKeptAs};
 ghost use Rattle.carol_grammar.specs.Outcome.{Means, Read};
 ghost use Rattle.carol_kept_run.specs.Asked.{HasScript, IsAsked, Refused, with_any_script};
 ghost use Rattle.carol_prepare.specs.Parts.{HasParts, IsFit, Nothing, PartsSay};
+ghost use Rattle.carol_prepare.specs.Verdicts.{IsToldRefused};
 ghost use Rattle.carol_program.specs.Rules.{rules_in};
 ghost use Rattle.carol_program.specs.Scenes.{IsValidScene};
 ghost use Rattle.carol_reply.specs.Reply.{HaltSays};
@@ -10,7 +12,7 @@ ghost use Rattle.carol_syntax.specs.Limits.{most_text_bytes};
 
 use carol_history::StatementList;
 use carol_parse::{TextError, parse};
-use carol_prepare::{Scripted, accepted, take_scene, take_script};
+use carol_prepare::{Placed, Scripted, accepted, take_scene, take_script};
 use carol_program::Scene;
 use carol_reading::Accepted;
 use carol_reply::Halt;
@@ -43,11 +45,28 @@ pub fn prepare<R: Threads + Sync>(rt: &R, alloc: Global, bytes: &[u8]) -> Result
         (PartsSay (codes "carol_kept") with_any_script Refused bytes.now)) }
 {
     let taken = parts(alloc, bytes)?;
-    let accepted = accepted(rt, alloc, taken.placed.program)?;
+    judged(rt, alloc, taken.placed, taken.script)
+}
+
+// What is asked for, if the program is accepted.
+fn judged<R: Threads + Sync>(
+    rt: &R,
+    alloc: Global,
+    placed: Placed,
+    script: StatementList,
+) -> Result<Ready, Halt>
+    requires { IsFit placed.program placed.scene }
+    ensures kept { IfOk result (λ ready. IsKeptAs placed.program ready.accepted) }
+    ensures scene { IfOk result (λ ready. ready.scene ≡ placed.scene) }
+    ensures script { IfOk result (λ ready. ready.script ≡ script) }
+    ensures told { IfErr result (HaltSays (IsToldRefused placed.program)) }
+{
+    let Placed { program, scene } = placed;
+    let accepted = accepted(rt, alloc, program)?;
     Ok(Ready {
         accepted,
-        scene: taken.placed.scene,
-        script: taken.script,
+        scene,
+        script,
     })
 }
 
@@ -78,9 +97,17 @@ fn has_script(alloc: Global, bytes: &[u8]) -> Result<bool, AllocError>
 {
     match parse(alloc, bytes) {
         Ok(file) => Ok(is_scripted(&file)),
-        Err(TextError::Bad { .. }) => Ok(false),
-        Err(TextError::TooLarge(_)) => Ok(false),
-        Err(TextError::NoMemory) => Err(AllocError),
+        Err(error) => not_read(error),
+    }
+}
+
+// A text that isn't read has none.
+fn not_read(error: TextError) -> Result<bool, AllocError>
+    ensures { IfOk result (λ _. error ≡ TextError.NoMemory → ⊥) }
+{
+    match error {
+        TextError::NoMemory => Err(AllocError),
+        TextError::Bad { .. } | TextError::TooLarge(_) => Ok(false),
     }
 }
 
