@@ -2,6 +2,9 @@
 //! and by what script it goes on.
 #![tactic(auto)]
 
+ghost use Rattle.carol_program.specs.Rules.{rules_in};
+ghost use Rattle.carol_program.specs.Scenes.{IsValidScene};
+
 use carol_file_disk::{FileDisk, open_file};
 use carol_kept_run::{Broken, Ready, keep_on, prepare};
 use carol_outer::{Sink, StdinSource, StdoutSink, read_all, write_all};
@@ -75,7 +78,9 @@ fn disk<R: Files<File = File> + AllocGlobal>(rt: &R, path: &str) -> io::Result<F
 }
 
 // Goes on with the history on the disk, and tells what that comes to.
-fn told<K: Sink>(alloc: Global, disk: FileDisk<File>, ready: Ready, sink: &mut K) -> Status {
+fn told<K: Sink>(alloc: Global, disk: FileDisk<File>, ready: Ready, sink: &mut K) -> Status
+    requires { IsValidScene (rules_in ready.accepted.program) ready.scene }
+{
     match keep_on(alloc, disk, ready, sink) {
         Ok(reply) => answered(sink, &reply),
         Err(Broken::Disk) => say(sink, Status::WriteFault, FILE_WRITE_FAULT),
