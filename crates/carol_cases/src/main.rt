@@ -3,10 +3,10 @@
 //!
 //! A file of `data/` holds its cases in lines, each with a mark and a space in front. `=` names the
 //! next case. Behind it `:` is a word of the command line, `<` a line of the input, and `-` text of
-//! the input that no line feed ends; `*` and `+` are the same with a number in front, which says how
-//! many times. `?` is the number of the status, and `>` a line of the text; with `~` the last line of
-//! the text is said to begin so, whatever follows. `%` is of a part of the input, its first bytes:
-//! how many, the number of the status, and the line that is told, if there is one.
+//! the input that no line feed ends; `*` and `+` are the same with a number in front, which says
+//! how many times. `?` is the number of the status, and `>` a line of the text; with `~` the last
+//! line of the text is said to begin so, whatever follows. `%` is of a part of the input, its first
+//! bytes: how many, the number of the status, and the line that is told, if there is one.
 //!
 //! Layer: program. Called by nobody: it is a program of its own.
 #![tactic(auto)]

@@ -52,8 +52,8 @@ pub fn check(formula: &Formula, tree: &Refutation) -> bool
     check_list(slice::from_ref(formula), tree)
 }
 
-/// Whether the tree refutes the formula in at most so many turns: leaves that close their lists, and
-/// branches.
+/// Whether the tree refutes the formula in at most so many turns: leaves that close their lists,
+/// and branches.
 pub fn check_within(formula: &Formula, tree: &Refutation, most: u32) -> bool
     requires { most < 2 ^ 32 - 1 }
     ensures refutes { IsTrue result

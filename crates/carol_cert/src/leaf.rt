@@ -217,6 +217,3 @@ fn tightened(column: &Column, before: &Numbers<'_>, count: usize, a: u32, d: i12
     let number = number_at(before, count, a as usize)?;
     quotient(column, number, d)
 }
-
-#[cfg(test)]
-mod tests;

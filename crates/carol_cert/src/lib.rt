@@ -11,8 +11,6 @@ mod column;
 mod leaf;
 mod place;
 mod step;
-#[cfg(test)]
-mod tests;
 mod tree;
 
 pub use checker::{check, check_list, check_within, turns, turns_list};

@@ -26,7 +26,7 @@ pub fn parse_event(alloc: Global, line: &[u8]) -> Result<Event, LineError>
         → IsOkAnd result (λ x. x ≡ event) }
 
     // No event's text begins with the line up to and with the column, and one begins with what
-    // stands before it. The 17th value or atom is bad at its first byte, not at the space before it.
+    // stands before it. The 17th value or atom is bad at its first byte, not at the space before.
     ensures bad { Refuses line.now result }
 {
     match event(alloc, line) {

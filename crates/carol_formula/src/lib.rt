@@ -8,11 +8,7 @@ mod boxed;
 mod formula;
 mod number;
 mod renaming;
-#[cfg(test)]
-mod renaming_tests;
 mod term;
-#[cfg(test)]
-mod tests;
 mod variable;
 
 pub use boxed::Boxed;

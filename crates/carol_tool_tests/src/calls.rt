@@ -32,8 +32,8 @@ pub(crate) struct Answer {
     pub sink: MemorySink,
 }
 
-/// Calls `carol` with one word, on these parts of an input. The source gives 100 bytes a call, and the
-/// sink takes 5.
+/// Calls `carol` with one word, on these parts of an input. The source gives 100 bytes a call, and
+/// the sink takes 5.
 pub(crate) fn call<R: Threads + Wait + Sync + AllocGlobal>(
     rt: &R,
     word: &[u8],

@@ -1,8 +1,7 @@
 ghost use Rattle.carol_formula.specs.Bounds.{IsBelow, term_limit};
 
-use super::*;
-use crate::step::StepList;
-use carol_formula::{Term, TermError};
+use carol_cert::{Place, RowStep, StepList, leaf_closes};
+use carol_formula::{Formula, Term, TermError, Variable};
 use std::alloc::Global;
 use std::test::Fail;
 

@@ -1,4 +1,4 @@
-use crate::{Boxed, Formula, Naming, Term, Valuation, Variable, renamed};
+use carol_formula::{Boxed, Formula, Naming, Term, Valuation, Variable, renamed};
 use std::alloc::{AllocError, Global};
 use std::test::Fail;
 

@@ -1,6 +1,6 @@
 ghost use Rattle.carol_formula.specs.Bounds.{IsBelow, term_limit};
 
-use crate::{Refutation, RowStep, StepList, check, check_list, turns};
+use carol_cert::{Refutation, RowStep, StepList, check, check_list, turns};
 use carol_formula::{Boxed, Formula, Term, TermError, Variable};
 use std::alloc::{AllocError, Global};
 use std::test::Fail;

@@ -1,7 +1,4 @@
-use crate::formula::Formula;
-use crate::number::NARROW_LIMIT;
-use crate::term::{Term, TermError};
-use crate::variable::{Valuation, Variable};
+use carol_formula::{Formula, NARROW_LIMIT, Term, TermError, Valuation, Variable};
 use std::alloc::{AllocError, Global};
 use std::test::Fail;
 
