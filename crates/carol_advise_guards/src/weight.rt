@@ -1,7 +1,7 @@
 ghost use Rattle.std.specs.Prelude.{◌≡◌, ◌<◌, ◌≤◌, ◌*◌, length, slice_get, Some};
 ghost use Rattle.std.specs.List.{AllByRecursion};
 ghost use Rattle.carol_program.specs.Accords.{HasWay};
-ghost use Rattle.carol_program.specs.Limits.{most_cells};
+ghost use Rattle.carol_program.specs.Limits.{most_cells, most_queries};
 ghost use Rattle.carol_advise_guards.specs.Bars as total;
 ghost use Rattle.carol_advise_guards.specs.Bars.{no_in, noes, noes_of_ways};
 ghost use Rattle.carol_store.specs.Kinds.{ways};
@@ -9,13 +9,16 @@ ghost use Rattle.carol_store.specs.Kinds.{ways};
 use carol_program::{AccordTable, Entry};
 use carol_store::CellKind;
 
+/// How much an assignment bars at the most: 8 guards with two entries for each of 16 cells.
+pub(crate) const MOST_BARS: u32 = 256;
+
 /// How many No entries the guards have together, which are in range. The table is one of cells of
 /// these kinds.
 pub fn bars(table: &AccordTable, kinds: &[CellKind], guards: &[u32]) -> u32
     requires kinds { kinds.now ≡ table.now.kinds }
     requires cells { length kinds.now ≤ most_cells }
     requires guards { AllByRecursion (λ g. g < table.now.guards) guards.now }
-    requires few { length guards.now ≤ 8 }
+    requires few { length guards.now ≤ most_queries }
     ensures { result ≡ total.bars table.now guards.now }
 {
     let mut left = guards;
