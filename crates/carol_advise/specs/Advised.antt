@@ -2,6 +2,7 @@
 use Rattle.std.specs.Prelude.{◌≡◌, ◌<◌, ◌≤◌, ◌^◌, ℕ, List, [], ◌∷◌, ◌++◌, length}
 use Rattle.std.specs.List.{AllByRecursion, Contains}
 use Rattle.carol_program.specs.declared.places.Place.{Place}
+use Rattle.carol_program.specs.declared.program.Program.{Program}
 use Rattle.carol_program.specs.Accords.{Accords}
 use Rattle.carol_program.specs.Bodies.{queries_in}
 use Rattle.carol_program.specs.Rules.{Rules, OpRules, rules_in}
@@ -15,6 +16,15 @@ use Rattle.carol_advise.specs.declared.answer.Advice.{Advice}
 use Rattle.carol_advise.specs.declared.answer.AdviseError.{AdviseError}
 use Rattle.carol_advise.specs.declared.answer.AdviseError.TheVariants.{TooMany, Undecided, NoMemory}
 use Rattle.carol_advise.specs.Tried.{HasBreach, IsDoubtfulUnder, IsGoodUnder, IsRejected, OfOp, guards_of}
+
+-- a program with its table
+abbrev pub kept_as : Program → Accords → Kept
+kept_as program table = record { program = program; accords = table }
+
+-- the table is one of the program's guards and cells
+pub record IsTableOf (p : Rules) (table : Accords) : Type 0 where
+  pub kinds : table.kinds ≡ p.shape
+  pub guards : table.guards ≡ length p.guards
 
 -- the operation has more assignments than are tried
 abbrev pub HasTooMany : Rules → OpRules → Type 0
@@ -50,13 +60,13 @@ IsReason p table number op NoMemory = Unit {0}
 
 -- the same of the operation with this number
 abbrev pub IsAdviceFor : Kept → ℕ → Advice → Type 0
-IsAdviceFor kept number a = OfOp kept number (λ op. IsAdvice (rules_in kept.program) kept.accords number op a)
+IsAdviceFor kept number a = OfOp kept.program number (λ op. IsAdvice (rules_in kept.program) kept.accords number op a)
 
 abbrev pub IsLeastFor : Kept → ℕ → Advice → Type 0
-IsLeastFor kept number a = OfOp kept number (λ op. IsLeast (rules_in kept.program) kept.accords op a)
+IsLeastFor kept number a = OfOp kept.program number (λ op. IsLeast (rules_in kept.program) kept.accords op a)
 
 abbrev pub IsReasonFor : Kept → ℕ → AdviseError → Type 0
-IsReasonFor kept number error = OfOp kept number (λ op. IsReason (rules_in kept.program) kept.accords number op error)
+IsReasonFor kept number error = OfOp kept.program number (λ op. IsReason (rules_in kept.program) kept.accords number op error)
 
 abbrev pub HasTooManyFor : Kept → ℕ → Type 0
-HasTooManyFor kept number = OfOp kept number (HasTooMany (rules_in kept.program))
+HasTooManyFor kept number = OfOp kept.program number (HasTooMany (rules_in kept.program))

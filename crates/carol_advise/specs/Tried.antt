@@ -1,12 +1,11 @@
 -- An operation that is tried under an assignment of guards.
 use Rattle.std.specs.Prelude.{◌≡◌, ℕ, List, [], ◌∷◌, ℤ, length, map, Some, slice_get}
-use Rattle.std.specs.List.{AllByRecursion}
 use Rattle.carol_formula.specs.Numbers.{number_at}
 use Rattle.carol_program.specs.declared.places.Place.{Place}
+use Rattle.carol_program.specs.declared.program.Program.{Program}
 use Rattle.carol_program.specs.Rules.{Rules, OpRules, rules_in}
 use Rattle.carol_obligation.specs.Spots.{Spot, spots_from}
 use Rattle.carol_reading.specs.Good.{IsGood}
-use Rattle.carol_reading.specs.Kept.{Kept}
 use Rattle.carol_typecheck.specs.First.{First}
 use Rattle.carol_typecheck.specs.Readings.{IsBroken, IsDoubtful, IsSafe}
 use Rattle.carol_decide.specs.declared.answer.Why.{Why}
@@ -40,6 +39,6 @@ IsRejected p number op r = IsBrokenUnder p number op r.guards r.place (number_at
 abbrev pub guards_of : List Rejected → List (List ℕ)
 guards_of rejected = map (λ r. r.guards) rejected
 
--- so it is of the operation with this number
-abbrev pub OfOp : Kept → ℕ → (OpRules → Type 0) → Type 0
-OfOp kept number P = (op : OpRules) → slice_get (rules_in kept.program).ops number ≡ Some op → P op
+-- so it is of the program's operation with this number
+abbrev pub OfOp : Program → ℕ → (OpRules → Type 0) → Type 0
+OfOp program number P = (op : OpRules) → slice_get (rules_in program).ops number ≡ Some op → P op

@@ -1,28 +1,43 @@
-ghost use Rattle.std.specs.Prelude.{◌≡◌, ◌≢◌, ◌↔◌, ◌<◌, ◌≤◌, length, slice_get, Err, Some, IfErr, IfOk};
+ghost use Rattle.std.specs.Prelude.{
+  ◌≡◌,
+  ◌≢◌,
+  ◌↔◌,
+  ◌<◌,
+  ◌≤◌,
+  length,
+  slice_get,
+  Err,
+  Some,
+  IfErr,
+  IfOk,
+};
 ghost use Rattle.std.specs.List.{AllByRecursion};
 ghost use Rattle.carol_program.specs.Bodies.{queries_in};
-ghost use Rattle.carol_program.specs.Called.{queries_of};
 ghost use Rattle.carol_program.specs.Limits.{most_queries};
 ghost use Rattle.carol_program.specs.Rules.{op_rules, rules_in};
+ghost use Rattle.carol_program.specs.WellFormed.{AreRules, IsOpOver, IsWellFormed};
+ghost use Rattle.carol_reading.specs.Good.{IsGood};
+ghost use Rattle.carol_reading.specs.Kept.{MayBeKept};
 ghost use Rattle.carol_advise.specs.Advised.{
   HasTooManyFor,
   IsAdvice,
   IsAdviceFor,
   IsLeast,
   IsLeastFor,
-  IsOpen,
   IsReason,
   IsReasonFor,
+  IsTableOf,
+  kept_as,
 };
+ghost use Rattle.carol_advise.specs.Tried.{OfOp};
 ghost use Rattle.carol_advise_guards.specs.Bars as total;
 ghost use Rattle.carol_advise_guards.specs.Order.{IsOrdered};
 
-use crate::answer::{Advice, AdviseError, Rejected, RejectedList};
-use crate::attempt::verdict_under;
+use crate::answer::{Advice, AdviseError, RejectedList};
+use crate::attempt::attempt;
 use carol_advise_guards::{GuardNumbers, are_few, assignments, bars};
-use carol_program::{Op, Program};
+use carol_program::{AccordTable, Op, Program};
 use carol_reading::Accepted;
-use carol_typecheck::Verdict;
 use sqlite_items::Items;
 use std::alloc::{AllocError, Global};
 
@@ -39,67 +54,81 @@ pub fn advise(alloc: Global, accepted: &Accepted, op: u32) -> Result<Advice, Adv
     ensures many { (result ≡ Err AdviseError.TooMany) ↔ HasTooManyFor accepted.now op }
     ensures reason { IfErr result (IsReasonFor accepted.now op) }
 {
-    let program = accepted.program();
-    let own = op_at(program, op);
+    advise_in(alloc, accepted.program(), accepted.accords(), op)
+}
+
+// The same of a program with its table.
+fn advise_in(
+    alloc: Global,
+    program: &Program,
+    table: &AccordTable,
+    number: u32,
+) -> Result<Advice, AdviseError>
+    requires op { number < length program.now.ops }
+    requires kept { MayBeKept program.now table.now }
+    ensures advice { IfOk result (IsAdviceFor (kept_as program.now table.now) number) }
+    ensures least { IfOk result (IsLeastFor (kept_as program.now table.now) number) }
+    ensures many { (result ≡ Err AdviseError.TooMany)
+        ↔ HasTooManyFor (kept_as program.now table.now) number }
+    ensures reason { IfErr result (IsReasonFor (kept_as program.now table.now) number) }
+{
+    let op = op_at(program, number);
     let guards = program.guards.len() as u32;
-    let slots = slots_of(program, op);
+    let slots = slots_of(program, number);
     if !are_few(guards, slots) {
         return Err(AdviseError::TooMany);
     }
-    let kinds = program.shape.kinds();
-    let list = assignments(alloc, accepted.accords(), kinds, guards, slots)?;
-    first_good(alloc, accepted, own, op, list.as_slice())
+    let list = assignments(alloc, table, program.shape.kinds(), guards, slots)?;
+    first_good(alloc, program, table, op, number, list.as_slice())
 }
 
 // The operation with this number.
-fn op_at(program: &Program, op: u32) -> &Op
-    requires { op < length program.now.ops }
-    ensures { slice_get program.now.ops op ≡ Some result.now }
+fn op_at(program: &Program, number: u32) -> &Op
+    requires { number < length program.now.ops }
+    ensures { slice_get program.now.ops number ≡ Some result.now }
 {
-    &program.ops.as_slice()[op as usize]
+    &program.ops.as_slice()[number as usize]
 }
 
 // How many queries the operation with this number has, each of which has a name.
-fn slots_of(program: &Program, op: u32) -> u32
-    requires { op < length program.now.names.ops }
-    ensures { result ≡ length (queries_of program.now.names op) }
+fn slots_of(program: &Program, number: u32) -> u32
+    requires { IsWellFormed (rules_in program.now) program.now.names }
+    requires op { number < length program.now.ops }
+    ensures { OfOp program.now number (λ op. result ≡ queries_in op.body) }
 {
-    program.names.ops.as_slice()[op as usize].queries.len() as u32
+    program.names.ops.as_slice()[number as usize].queries.len() as u32
 }
 
-// The first of the assignments, which are all in order, under which the operation is good.
+// The first of the assignments, which are all in order, under which the operation is good. Under
+// its own guards it is.
 fn first_good(
     alloc: Global,
-    accepted: &Accepted,
+    program: &Program,
+    table: &AccordTable,
     op: &Op,
     number: u32,
     list: &[GuardNumbers],
 ) -> Result<Advice, AdviseError>
-    requires op { slice_get accepted.now.program.ops number ≡ Some op.now }
-    requires list { IsOrdered accepted.now.accords (length accepted.now.program.guards)
+    requires rules { AreRules (rules_in program.now) }
+    requires op { let p = rules_in program.now in
+        IsOpOver p.shape (length p.guards) (op_rules op.now) }
+    requires good { IsGood (rules_in program.now) (op_rules op.now) }
+    requires table { IsTableOf (rules_in program.now) table.now }
+    requires list { IsOrdered table.now (length (rules_in program.now).guards)
         (queries_in (op_rules op.now).body) list.now }
-    ensures advice { IfOk result (IsAdvice (rules_in accepted.now.program)
-        accepted.now.accords number (op_rules op.now)) }
-    ensures reason { IfErr result (IsReason (rules_in accepted.now.program)
-        accepted.now.accords number (op_rules op.now)) }
+    ensures advice { IfOk result
+        (IsAdvice (rules_in program.now) table.now number (op_rules op.now)) }
+    ensures least { IfOk result (IsLeast (rules_in program.now) table.now (op_rules op.now)) }
+    ensures reason { IfErr result
+        (IsReason (rules_in program.now) table.now number (op_rules op.now)) }
     ensures few { result ≢ Err AdviseError.TooMany }
 {
-    let program = accepted.program();
     let mut rejected = Items::new(alloc);
     let mut left = list;
     while let Some((guards, more)) = left.split_first() {
-        match verdict_under(alloc, program, op, number, guards.as_slice())? {
-            Verdict::Good => {
-                return Ok(advice(alloc, accepted, guards.as_slice(), rejected)?);
-            },
-            Verdict::Fails(place, at) => {
-                let guards = Items::from_slice(alloc, guards.as_slice())?;
-                rejected.push(Rejected { guards, place, at })?;
-            }
-            Verdict::Undecided(place, why) => {
-                let guards = Items::from_slice(alloc, guards.as_slice())?;
-                return Err(AdviseError::Undecided { guards, place, why });
-            }
+        match attempt(alloc, program, op, number, guards.as_slice())? {
+            Some(bad) => rejected.push(bad)?,
+            None => return Ok(advice(alloc, program, table, guards.as_slice(), rejected)?),
         }
         left = more;
     }
@@ -109,18 +138,21 @@ fn first_good(
 // The advice of these guards, where those are rejected.
 fn advice(
     alloc: Global,
-    accepted: &Accepted,
+    program: &Program,
+    table: &AccordTable,
     guards: &[u32],
     rejected: RejectedList,
 ) -> Result<Advice, AllocError>
-    requires guards { AllByRecursion (λ g. g < length accepted.now.program.guards) guards.now }
+    requires rules { AreRules (rules_in program.now) }
+    requires table { IsTableOf (rules_in program.now) table.now }
+    requires guards { AllByRecursion (λ g. g < length (rules_in program.now).guards) guards.now }
     requires few { length guards.now ≤ most_queries }
-    ensures { IfOk result (λ a. (a.guards ≡ guards.now) × (a.rejected ≡ rejected)
-        × (a.bars ≡ total.bars accepted.now.accords guards.now)) }
+    ensures guards { IfOk result (λ a. a.guards ≡ guards.now) }
+    ensures rejected { IfOk result (λ a. a.rejected ≡ rejected) }
+    ensures bars { IfOk result (λ a. a.bars ≡ total.bars table.now guards.now) }
 {
-    let kinds = accepted.program().shape.kinds();
     Ok(Advice {
-        bars: bars(accepted.accords(), kinds, guards),
+        bars: bars(table, program.shape.kinds(), guards),
         guards: Items::from_slice(alloc, guards)?,
         rejected,
     })
