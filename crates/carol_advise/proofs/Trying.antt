@@ -2,6 +2,7 @@
 use Rattle.std.proofs.Common.{◌≡◌, ◌<◌, ◌≤◌, ℕ, List, [], ◌∷◌, ◌++◌, length, map, refl, sym, ◌∙◌, ap, subst, inl, inr, arith, append_assoc}
 use Rattle.std.specs.Prelude.{ℤ, Result, Ok, Err, Some, None, Option, IfOk, IfErr}
 use Rattle.std.specs.List.{All, AllByRecursion, Contains}
+use Rattle.std.proofs.lemmas.Bool.{cases_lt}
 use Rattle.std.proofs.lemmas.List.{map-append, append-nil}
 use Rattle.std.proofs.lemmas.List.Elements.{All-contains, All-from_recursion}
 use Rattle.carol_formula.specs.Numbers.{number_at}
@@ -47,7 +48,10 @@ trying_more p number op list left more gs old new r first longer bad t =
     }
 
 not_below : (a b : ℕ) → (b < a → ⊥) → a ≤ b
-not_below a b no = elim (le_or_lt a b) [ | inl h ↦ h | inr h ↦ absurd (no h) ]
+not_below a b no = elim (cases_lt b a) [
+  | inl h ↦ absurd (no h)
+  | inr h ↦ h
+]
 
 module _ (p : Rules) (table : Accords) (number : ℕ) (op : OpRules) (list : List (List ℕ)) (ordered : IsOrdered table (length p.guards) (queries_in op.body) list) where
   -- ---- the next of them
