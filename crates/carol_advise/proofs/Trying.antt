@@ -30,7 +30,7 @@ use Rattle.carol_advise.proofs.Orders.{ascends-first, listed_before}
 pub record Trying (p : Rules) (number : ℕ) (op : OpRules) (list : List (List ℕ)) (rejected : List Rejected) (left : List (List ℕ)) : Type 0 where
   pub whole : guards_of rejected ++ left ≡ list
   pub rejected : AllByRecursion (IsRejected p number op) rejected
-  pub bad : AllByRecursion (λ r. ¬ IsGoodUnder p op r.guards) rejected
+  pub bad : AllByRecursion (λ (r : Rejected). ¬ IsGoodUnder p op r.guards) rejected
 
 pub trying_none : (p : Rules) (number : ℕ) (op : OpRules) (list left : List (List ℕ)) (rejected : List Rejected) → rejected ≡ [] → left ≡ list → Trying p number op list rejected left
 trying_none p number op list left rejected none is =
@@ -44,7 +44,7 @@ trying_more p number op list left more gs old new r first longer bad t =
     record {
       whole = ap (λ xs. xs ++ more) names ∙ append_assoc (guards_of old) (gs ∷ []) more ∙ ap (λ xs. guards_of old ++ xs) (sym first) ∙ t.whole;
       rejected = subst (AllByRecursion (IsRejected p number op)) (sym longer) (all-append (IsRejected p number op) old (r ∷ []) t.rejected (bad.rejected, tt));
-      bad = subst (AllByRecursion (λ x. ¬ IsGoodUnder p op x.guards)) (sym longer) (all-append (λ x. ¬ IsGoodUnder p op x.guards) old (r ∷ []) t.bad (bad.bad, tt));
+      bad = subst (AllByRecursion (λ (x : Rejected). ¬ IsGoodUnder p op x.guards)) (sym longer) (all-append (λ (x : Rejected). ¬ IsGoodUnder p op x.guards) old (r ∷ []) t.bad (bad.bad, tt));
     }
 
 not_below : (a b : ℕ) → (b < a → ⊥) → a ≤ b
@@ -85,12 +85,12 @@ module _ (p : Rules) (table : Accords) (number : ℕ) (op : OpRules) (list : Lis
       }
 
   -- an assignment under which the operation is good isn't rejected
-  not_rejected : (rejected : List Rejected) (hs : List ℕ) → AllByRecursion (λ r. ¬ IsGoodUnder p op r.guards) rejected → IsGoodUnder p op hs → Contains (guards_of rejected) hs → ⊥
+  not_rejected : (rejected : List Rejected) (hs : List ℕ) → AllByRecursion (λ (r : Rejected). ¬ IsGoodUnder p op r.guards) rejected → IsGoodUnder p op hs → Contains (guards_of rejected) hs → ⊥
   not_rejected rejected hs bad good there =
       All-contains (λ gs. ¬ IsGoodUnder p op gs) (guards_of rejected) hs
       (All-from_recursion (λ gs. ¬ IsGoodUnder p op gs) (guards_of rejected) (all-map (λ gs. ¬ IsGoodUnder p op gs) (λ (r : Rejected). r.guards) rejected bad)) there good
 
-  pub least : (a : Advice) → AllByRecursion (λ r. ¬ IsGoodUnder p op r.guards) a.rejected → IsAdvice p table number op a → IsLeast p table op a
+  pub least : (a : Advice) → AllByRecursion (λ (r : Rejected). ¬ IsGoodUnder p op r.guards) a.rejected → IsAdvice p table number op a → IsLeast p table op a
   least a bad is hs assigns good =
       let no : bars table hs < a.bars → ⊥ = λ less. not_rejected a.rejected hs bad good (is.all hs assigns (inl (omega (arith, less, is.bars)))) in
       not_below a.bars (bars table hs) no
@@ -100,7 +100,7 @@ module _ (p : Rules) (table : Accords) (number : ℕ) (op : OpRules) (list : Lis
   breaches : (rejected : List Rejected) → AllByRecursion (IsRejected p number op) rejected → AllByRecursion (HasBreach p number op) (guards_of rejected)
   breaches rejected all =
       all-map (HasBreach p number op) (λ (r : Rejected). r.guards) rejected
-      (all_both (IsRejected p number op) (λ r. HasBreach p number op r.guards) (λ r h. (r.place, number_at r.at, h)) rejected all)
+      (all_both (IsRejected p number op) (λ (r : Rejected). HasBreach p number op r.guards) (λ r h. (r.place, number_at r.at, h)) rejected all)
 
   pub open_at : (left more : List (List ℕ)) (gs hs : List ℕ) (rejected : List Rejected) (place : Place) (why : Why) → left ≡ gs ∷ more → Trying p number op list rejected left
       → hs ≡ gs → IsDoubtfulUnder p number op gs place why → IsOpen p table number op hs place why

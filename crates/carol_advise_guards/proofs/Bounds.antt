@@ -46,9 +46,9 @@ lists_fit table guards slots same few =
     (λ gs a. (omega (arith, a.count), subst (λ n. AllByRecursion (λ g. g < n) gs) same a.declared)) (lists_of guards slots) (lists_assign guards slots)
 
 pub weighed-few : (table : Accords) (guards slots : ℕ) → length table.kinds ≤ most_cells → slots ≤ most_queries
-    → AllByRecursion (λ c. c.bars ≤ 256) (weighed table (lists_of guards slots))
+    → AllByRecursion (λ (c : Weighed). c.bars ≤ 256) (weighed table (lists_of guards slots))
 weighed-few table guards slots cells few =
-    all-map (λ c. c.bars ≤ 256) (weighed_as table) (lists_of guards slots)
+    all-map (λ (c : Weighed). c.bars ≤ 256) (weighed_as table) (lists_of guards slots)
     (all_both (IsAssignment guards slots) (λ gs. bars table gs ≤ 256)
     (λ gs a. let low = bars-few table gs cells in omega (arith, low, a.count)) (lists_of guards slots) (lists_assign guards slots))
 

@@ -120,8 +120,11 @@ append_none : (xs : List ℕ) → xs ++ [] ≡ xs
 append_none [] = refl
 append_none (x ∷ xs) = ap (λ ys. x ∷ ys) (append_none xs)
 
+with_body : OpRules → Body → OpRules
+with_body op b = record { params = op.params; result = op.result; body = b }
+
 pub own_same : (kinds : List CellKind) (guards : ℕ) (op : OpRules) → IsOpOver kinds guards op → op_under (guards_in op.body) op ≡ op
 own_same kinds guards op over =
     let same : guarded (guards_in op.body) op.body ≡ op.body =
     subst (λ gs. guarded gs op.body ≡ op.body) (append_none (guards_in op.body)) (own_among [] [] op.body over.slots) in
-    ap (λ b. record { params = op.params; result = op.result; body = b }) same
+    ap (with_body op) same
