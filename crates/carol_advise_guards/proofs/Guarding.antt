@@ -39,7 +39,7 @@ rises gs low (Query number guard slot next) h = (h.0, rises gs (number + 1) next
 rises gs low (Issue number parts next) h = (h.0, rises gs (number + 1) next h.1)
 rises gs low (Release number next) h = (h.0, rises gs (number + 1) next h.1)
 rises gs low (Branch number test first second) h =
-    (h.0, rises gs (number + 1) first h.1.0, subst (λ n. RisesFrom (n + 1) (guarded gs second)) (sym (last-same gs first)) (rises gs (last_number first + 1) second h.1.1))
+    (h.0, rises gs (number + 1) first h.1, subst (λ n. RisesFrom (n + 1) (guarded gs second)) (sym (last-same gs first)) (rises gs (last_number first + 1) second h.2))
 rises gs low (Return number value) h = h
 
 in_order : (gs : List ℕ) (low : ℕ) (body : Body) → SlotsFrom low body → SlotsFrom low (guarded gs body)
@@ -56,7 +56,7 @@ fits : (s : Setting) (gs slots : List ℕ) (body : Body) → AllByRecursion (λ 
 fits s gs slots (Query number guard slot next) all h = (at_or (λ g. g < s.guards) gs slot guard all h.0, fits s gs (slot ∷ slots) next all h.1)
 fits s gs slots (Issue number parts next) all h = (h.0, fits s gs slots next all h.1)
 fits s gs slots (Release number next) all h = fits s gs slots next all h
-fits s gs slots (Branch number test first second) all h = (h.0, fits s gs slots first all h.1.0, fits s gs slots second all h.1.1)
+fits s gs slots (Branch number test first second) all h = (h.0, fits s gs slots first all h.1, fits s gs slots second all h.2)
 fits s gs slots (Return number value) all h = h
 
 pub stays_over : (kinds : List CellKind) (guards : ℕ) (op : OpRules) (gs : List ℕ) → IsOpOver kinds guards op → Assigns guards op gs → IsOpOver kinds guards (op_under gs op)
@@ -86,7 +86,7 @@ own-declared s slots (Query number guard slot next) h = (h.0, own-declared s (sl
 own-declared s slots (Issue number parts next) h = own-declared s slots next h.1
 own-declared s slots (Release number next) h = own-declared s slots next h
 own-declared s slots (Branch number test first second) h =
-    all-append (λ g. g < s.guards) (guards_in first) (guards_in second) (own-declared s slots first h.1.0) (own-declared s slots second h.1.1)
+    all-append (λ g. g < s.guards) (guards_in first) (guards_in second) (own-declared s slots first h.1) (own-declared s slots second h.2)
 own-declared s slots (Return number value) h = tt
 
 pub own_assigns : (kinds : List CellKind) (guards : ℕ) (op : OpRules) → IsOpOver kinds guards op → Assigns guards op (guards_in op.body)
@@ -120,7 +120,7 @@ append_none : (xs : List ℕ) → xs ++ [] ≡ xs
 append_none [] = refl
 append_none (x ∷ xs) = ap (λ ys. x ∷ ys) (append_none xs)
 
-with_body : OpRules → Body → OpRules
+abbrev with_body : OpRules → Body → OpRules
 with_body op b = record { params = op.params; result = op.result; body = b }
 
 pub own_same : (kinds : List CellKind) (guards : ℕ) (op : OpRules) → IsOpOver kinds guards op → op_under (guards_in op.body) op ≡ op

@@ -5,3 +5,4 @@ pub mod Keeping
 pub mod Ordering
 pub mod Powers
 pub mod Bounds
+pub mod Most
