@@ -1,0 +1,4 @@
+pub mod Ending
+pub mod Advising
+pub mod Statuses
+pub mod Told
