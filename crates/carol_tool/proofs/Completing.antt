@@ -3,6 +3,7 @@ use Rattle.std.proofs.Common.{◌≡◌, ◌<◌, ◌≤◌, ◌+◌, ℕ, List,
 use Rattle.std.specs.Prelude.{◌⊎◌, Option, None, Some}
 use Rattle.std.specs.Io.KnownBytes.{Consumes, IsAtEnd}
 use Rattle.std.proofs.lemmas.List.{append-nil, length-append}
+use Rattle.carol_advise_complete.specs.Law.{AdvisesSucceed}
 use Rattle.carol_complete.specs.Laws.{AuditsSucceed, ChecksSucceed, RunsSucceed, StepsSucceed}
 use Rattle.carol_gen.specs.Law.{GenIsOk}
 use Rattle.carol_keep_complete.specs.Law.{KeepsSucceed}
@@ -24,6 +25,7 @@ pub record WordLaws : Type 0 where
   pub steps : StepsSucceed
   pub keeps : KeepsSucceed
   pub audits : AuditsSucceed
+  pub advises : AdvisesSucceed
   pub runs : RunsSucceed
   pub gen : GenIsOk
 
@@ -83,6 +85,8 @@ gen_done law count few old new given meant text quiet done =
 
 asked_done : WordLaws → (asked : Command) → IsCounted (Some asked) → (old new : End) (meant : Status) (text : List ℕ) → IsDoable asked old.bytes
     → ¬ Rose old.faults new.faults → MeantBy (Some asked) old new meant text → IsDone meant
+asked_done laws (command.Read (word.Advise op)) counted old new meant text ready quiet h =
+    told_done _ _ old.bytes old new h.bytes meant text tt (laws.advises op) ready quiet h.given h.comes
 asked_done laws (command.Read word.Audit) counted old new meant text ready quiet h =
     told_done _ _ old.bytes old new h.bytes meant text tt laws.audits ready quiet h.given h.comes
 asked_done laws (command.Read word.Check) counted old new meant text ready quiet h =

@@ -34,12 +34,14 @@ within_from n m h = grind arith
 
 -- a word that reads its input reads all of it
 pub reads_all : (asked : Word) → (word_meaning asked).whole
+reads_all (word.Advise op) = tt
 reads_all word.Audit = tt
 reads_all word.Check = tt
 reads_all (word.Keep stop) = tt
 reads_all word.Step = tt
 
 pub reads_some : (asked : Word) → (word_meaning asked).unread → ⊥
+reads_some (word.Advise op) none = none
 reads_some word.Audit none = none
 reads_some word.Check none = none
 reads_some (word.Keep stop) none = none

@@ -1,5 +1,6 @@
 -- That a command is done where nothing stands against it.
 use Rattle.std.specs.Prelude.{◌≡◌, ◌⊎◌, ◌≤◌, ℕ, List, Option, Some, None, length}
+use Rattle.carol_advise_complete.specs.Law.{IsAdviseInput}
 use Rattle.carol_complete.specs.Inputs.{IsAuditInput, IsCheckInput, IsRunInput, IsStepInput}
 use Rattle.carol_outer.specs.Faults.{Rose}
 use Rattle.carol_reply.specs.declared.status.Status.{Status}
@@ -18,6 +19,7 @@ Has asked (Some bytes) = (length bytes ≤ most_text_bytes) × asked bytes
 
 -- nothing stands against the command with these bytes; `gen` takes none, and nothing ever does
 abbrev pub IsDoable : Command → Option (List ℕ) → Type 0
+IsDoable (command.Read (word.Advise op)) known = Has (IsAdviseInput op) known
 IsDoable (command.Read word.Audit) known = Has IsAuditInput known
 IsDoable (command.Read word.Check) known = Has IsCheckInput known
 IsDoable (command.Read word.Step) known = Has IsStepInput known

@@ -2,6 +2,8 @@
 use Rattle.std.specs.Prelude.{◌≤◌, List, ℕ, zero, suc, [], ◌∷◌, map, codes, decimal, bytes_eq, if◌then◌else◌, Option, Some, None, option_map, Vec}
 use Rattle.std.specs.declared.alloc.Global.{Global}
 use Rattle.carol_reply.specs.Meaning.{Meaning}
+use Rattle.carol_advise_word.specs.Advise.{advise_meaning}
+use Rattle.carol_advise_word.specs.OpWord.{op_word}
 use Rattle.carol_generator.specs.declared.generator.TheConstants.{MOST_PER_SESSION}
 use Rattle.carol_keep.specs.Keep.{keep_meaning}
 use Rattle.carol_tool.specs.declared.command.TheConstants.{MOST_STOP}
@@ -32,7 +34,8 @@ spelled_stop word = if bytes_eq word (codes "0") then Some 0 else spelled_count 
 -- the word that reads its input, with this argument, if it takes one
 abbrev pub word_with : List ℕ → List ℕ → Option Word
 word_with text argument =
-    if bytes_eq text (codes "keep") then option_map word.Keep (spelled_stop argument) else None
+    if bytes_eq text (codes "keep") then option_map word.Keep (spelled_stop argument)
+    else if bytes_eq text (codes "advise") then Some (word.Advise (op_word argument)) else None
 
 -- the command that the words are, if they are one
 abbrev pub command_of : List (List ℕ) → Option Command
@@ -50,6 +53,7 @@ command_of (text ∷ argument ∷ next ∷ more) = None
 
 -- what a word means that reads its input
 abbrev pub word_meaning : Word → Meaning
+word_meaning (word.Advise op) = advise_meaning op
 word_meaning word.Audit = audit_meaning
 word_meaning word.Check = check_meaning
 word_meaning (word.Keep stop) = keep_meaning stop

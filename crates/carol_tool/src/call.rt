@@ -9,6 +9,8 @@ ghost use Rattle.carol_tool.specs.Complete.{Completes};
 ghost use Rattle.carol_tool.specs.Words.{IsCounted, texts, word_meaning};
 
 use super::command::{Command, Word, command_of};
+use carol_advise_complete::advise_succeeds;
+use carol_advise_word::advise_bytes;
 use carol_complete::complete_laws;
 use carol_gen::gen_is_ok;
 use carol_keep::keep_bytes;
@@ -26,7 +28,7 @@ use std::sync::Wait;
 use std::thread::Threads;
 
 // The text of the answer to words that are no command.
-const USAGE: &[u8] = b"usage: carol check, step, run, audit, gen N or keep K\n";
+const USAGE: &[u8] = b"usage: carol check, step, run, audit, gen N, keep K or advise OP\n";
 
 /// Does what the words of a command line say, of which the single word `run` is no part: reads the
 /// source, writes one text to the sink and answers the status. `ReadFault` and `WriteFault` come
@@ -60,6 +62,7 @@ pub fn plain<R: Threads + Sync, S: Source, K: Sink>(
     complete_laws();
     gen_is_ok();
     keep_succeeds();
+    advise_succeeds();
     answer_plain(rt, alloc, command_of(words), source, sink)
 }
 
@@ -100,6 +103,7 @@ pub fn carol<R: Threads + Wait + Sync, S: Source, K: Sink, G: Gate + Sync>(
     complete_laws();
     gen_is_ok();
     keep_succeeds();
+    advise_succeeds();
     answer_command(rt, alloc, command_of(words), source, sink, gate)
 }
 
@@ -180,6 +184,7 @@ fn word_reply<R: Threads + Sync>(
     ensures { IfOk result (λ reply. IsReply (word_meaning word) bytes.now (answer_of reply)) }
 {
     match word {
+        Word::Advise(op) => advise_bytes(rt, alloc, op, bytes),
         Word::Audit => audit_bytes(rt, alloc, bytes),
         Word::Check => check_bytes(rt, alloc, bytes),
         Word::Keep(stop) => keep_bytes(rt, alloc, stop, bytes),

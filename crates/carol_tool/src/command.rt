@@ -7,6 +7,7 @@ ghost use Rattle.carol_tool.specs.Words.{
   word_with,
 };
 
+use carol_advise_word::OpWord;
 use carol_generator::MOST_PER_SESSION;
 use carol_text::number;
 
@@ -16,6 +17,8 @@ const MOST_STOP: u32 = 1_000_000;
 /// A word that reads its input, and waits for nobody.
 #[derive(Clone, Copy, Debug, PartialEq, Eq)]
 pub enum Word {
+    /// To say which guards the queries of this operation need.
+    Advise(OpWord),
     /// To say whether a transcript is that of a history.
     Audit,
     /// To say whether the program of a file is accepted.
@@ -85,6 +88,9 @@ fn word_with(word: &[u8], argument: &[u8]) -> Option<Word>
 {
     if word == b"keep".as_slice() {
         return spelled_stop(argument).map(Word::Keep);
+    }
+    if word == b"advise".as_slice() {
+        return Some(Word::Advise(OpWord::new(argument)));
     }
     None
 }

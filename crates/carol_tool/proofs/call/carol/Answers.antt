@@ -23,6 +23,7 @@ returns-clause-complete g c = completed
       steps = c.complete_laws.ensures.steps;
       keeps = c.keep_succeeds.ensures;
       audits = c.complete_laws.ensures.audits;
+      advises = c.advise_succeeds.ensures;
       runs = c.complete_laws.ensures.runs;
       gen = c.gen_is_ok.ensures.ok;
     })

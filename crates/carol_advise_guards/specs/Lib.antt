@@ -1,0 +1,5 @@
+pub mod Under
+pub mod Chains
+pub mod Bars
+pub mod Order
+pub mod Listing
