@@ -29,27 +29,27 @@ use Rattle.carol_advise.proofs.Orders.{ascends-first, listed_before}
 -- operation is good
 pub record Trying (p : Rules) (number : ℕ) (op : OpRules) (list : List (List ℕ)) (rejected : List Rejected) (left : List (List ℕ)) : Type 0 where
   pub whole : guards_of rejected ++ left ≡ list
-  pub rejected : AllByRecursion (IsRejected p number op) rejected
+  pub broken : AllByRecursion (IsRejected p number op) rejected
   pub bad : AllByRecursion (λ (r : Rejected). ¬ IsGoodUnder p op r.guards) rejected
 
 pub trying_none : (p : Rules) (number : ℕ) (op : OpRules) (list left : List (List ℕ)) (rejected : List Rejected) → rejected ≡ [] → left ≡ list → Trying p number op list rejected left
 trying_none p number op list left rejected none is =
-    subst (λ r. Trying p number op list r left) (sym none) (record { whole = is; rejected = tt; bad = tt })
+    subst (λ r. Trying p number op list r left) (sym none) (record { whole = is; broken = tt; bad = tt })
 
 pub trying_more : (p : Rules) (number : ℕ) (op : OpRules) (list left more : List (List ℕ)) (gs : List ℕ) (old new : List Rejected) (r : Rejected)
     → left ≡ gs ∷ more → new ≡ old ++ r ∷ [] → IsBad p number op gs r → Trying p number op list old left → Trying p number op list new more
 trying_more p number op list left more gs old new r first longer bad t =
     let names : guards_of new ≡ guards_of old ++ gs ∷ [] =
-        ap guards_of longer ∙ map-append (λ (x : Rejected). x.guards) old (r ∷ []) ∙ ap (λ hs. guards_of old ++ hs ∷ []) bad.same in
+    ap guards_of longer ∙ map-append (λ (x : Rejected). x.guards) old (r ∷ []) ∙ ap (λ hs. guards_of old ++ hs ∷ []) bad.same in
     record {
       whole = ap (λ xs. xs ++ more) names ∙ append_assoc (guards_of old) (gs ∷ []) more ∙ ap (λ xs. guards_of old ++ xs) (sym first) ∙ t.whole;
-      rejected = subst (AllByRecursion (IsRejected p number op)) (sym longer) (all-append (IsRejected p number op) old (r ∷ []) t.rejected (bad.rejected, tt));
+      broken = subst (AllByRecursion (IsRejected p number op)) (sym longer) (all-append (IsRejected p number op) old (r ∷ []) t.broken (bad.rejected, tt));
       bad = subst (AllByRecursion (λ (x : Rejected). ¬ IsGoodUnder p op x.guards)) (sym longer) (all-append (λ (x : Rejected). ¬ IsGoodUnder p op x.guards) old (r ∷ []) t.bad (bad.bad, tt));
     }
 
 not_below : (a b : ℕ) → (b < a → ⊥) → a ≤ b
-not_below a b no = elim (cases_lt b a) [
-  | inl h ↦ absurd (no h)
+not_below a b never = elim (cases_lt b a) [
+  | inl h ↦ absurd (never h)
   | inr h ↦ h
 ]
 
@@ -77,7 +77,7 @@ module _ (p : Rules) (table : Accords) (number : ℕ) (op : OpRules) (list : Lis
         assigns = subst (Assigns (length p.guards) op) (sym same) (next_assigns left more gs a.rejected first t);
         bars = weight ∙ ap (bars table) (sym same);
         good = subst (IsGoodUnder p op) (sym same) good;
-        rejected = t.rejected;
+        rejected = t.broken;
         each = all-first (Assigns (length p.guards) op) (guards_of a.rejected) (gs ∷ more) (all_there left more gs a.rejected first t);
         ascends = subst (λ hs. Ascends table (guards_of a.rejected ++ hs ∷ [])) (sym same)
             (ascends-first table (guards_of a.rejected ++ gs ∷ []) more (subst (Ascends table) (sym (append_assoc (guards_of a.rejected) (gs ∷ []) more)) ascends));
@@ -92,8 +92,8 @@ module _ (p : Rules) (table : Accords) (number : ℕ) (op : OpRules) (list : Lis
 
   pub least : (a : Advice) → AllByRecursion (λ (r : Rejected). ¬ IsGoodUnder p op r.guards) a.rejected → IsAdvice p table number op a → IsLeast p table op a
   least a bad is hs assigns good =
-      let no : bars table hs < a.bars → ⊥ = λ less. not_rejected a.rejected hs bad good (is.all hs assigns (inl (omega (arith, less, is.bars)))) in
-      not_below a.bars (bars table hs) no
+      let never : bars table hs < a.bars → ⊥ = λ less. not_rejected a.rejected hs bad good (is.all hs assigns (inl (omega (arith, less, is.bars)))) in
+      not_below a.bars (bars table hs) never
 
   -- ---- it is undecided
 
@@ -106,7 +106,7 @@ module _ (p : Rules) (table : Accords) (number : ℕ) (op : OpRules) (list : Lis
       → hs ≡ gs → IsDoubtfulUnder p number op gs place why → IsOpen p table number op hs place why
   open_at left more gs hs rejected place why first t same doubtful = record {
     assigns = subst (Assigns (length p.guards) op) (sym same) (next_assigns left more gs rejected first t);
-    before = λ other assigns less. All-contains (HasBreach p number op) (guards_of rejected) other (All-from_recursion (HasBreach p number op) (guards_of rejected) (breaches rejected t.rejected))
+    before = λ other assigns less. All-contains (HasBreach p number op) (guards_of rejected) other (All-from_recursion (HasBreach p number op) (guards_of rejected) (breaches rejected t.broken))
         (listed_before table (length p.guards) (queries_in op.body) list (guards_of rejected) more gs other ordered (next_there left more gs rejected first t) assigns (subst (IsBefore table other) same less));
     doubtful = subst (λ xs. IsDoubtfulUnder p number op xs place why) (sym same) doubtful;
   }
