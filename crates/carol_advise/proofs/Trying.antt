@@ -20,8 +20,10 @@ use Rattle.carol_advise_guards.proofs.Guarding.{own_assigns, own_same}
 use Rattle.carol_advise_guards.proofs.Lists.{all-append, all-first, all-map, all-second, all_both}
 use Rattle.carol_advise.specs.declared.answer.Advice.{Advice}
 use Rattle.carol_advise.specs.declared.answer.Rejected.{Rejected}
-use Rattle.carol_advise.specs.Attempts.{IsBad}
-use Rattle.carol_advise.specs.Advised.{IsAdvice, IsLeast, IsOpen}
+use Rattle.carol_advise.specs.declared.answer.AdviseError.{AdviseError}
+use Rattle.carol_advise.specs.declared.answer.AdviseError.TheVariants.{TooMany, Undecided, NoMemory}
+use Rattle.carol_advise.specs.Attempts.{IsBad, IsStopped}
+use Rattle.carol_advise.specs.Advised.{IsAdvice, IsLeast, IsOpen, IsReason}
 use Rattle.carol_advise.specs.Tried.{HasBreach, IsDoubtfulUnder, IsGoodUnder, IsRejected, guards_of}
 use Rattle.carol_advise.proofs.Orders.{ascends-first, listed_before}
 
@@ -118,3 +120,14 @@ module _ (p : Rules) (table : Accords) (number : ℕ) (op : OpRules) (list : Lis
       let all : guards_of rejected ≡ list = sym (append-nil (guards_of rejected)) ∙ ap (λ xs. guards_of rejected ++ xs) (sym none) ∙ t.whole in
       let there : Contains (guards_of rejected) (guards_in op.body) = subst (λ xs. Contains xs (guards_in op.body)) (sym all) (ordered.all (guards_in op.body) (own_assigns p.shape (length p.guards) op over)) in
       not_rejected rejected (guards_in op.body) t.bad (subst (IsGood p) (sym (own_same p.shape (length p.guards) op over)) good) there
+
+  pub never_left : (left : List (List ℕ)) (rejected : List Rejected) → IsOpOver p.shape (length p.guards) op → IsGood p op → length left ≡ 0 → Trying p number op list rejected left → ⊥
+  never_left [] rejected over good none t = never_out [] rejected over good refl t
+  never_left (gs ∷ left) rejected over good none t = omega (arith, none)
+
+  pub stopped : (left more : List (List ℕ)) (gs asked : List ℕ) (rejected : List Rejected) (error : AdviseError) → left ≡ gs ∷ more → Trying p number op list rejected left
+      → asked ≡ gs → IsStopped p number op asked error → IsReason p table number op error
+  stopped left more gs asked rejected TooMany first t same h = absurd h
+  stopped left more gs asked rejected (Undecided hs place why) first t same h =
+      open_at left more gs hs rejected place why first t (h.0 ∙ same) (subst (λ xs. IsDoubtfulUnder p number op xs place why) same h.1)
+  stopped left more gs asked rejected NoMemory first t same h = tt
