@@ -1,3 +1,4 @@
 pub mod Orders
 pub mod Trying
 pub mod Standing
+pub mod Answering

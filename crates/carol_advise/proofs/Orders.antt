@@ -34,7 +34,7 @@ ascends-first table [] ys h = tt
 ascends-first table (x ∷ xs) ys h = (all-first (IsBefore table x) xs ys h.0, ascends-first table xs ys h.1)
 
 none_in : {A : Type 0} (x : A) → Contains [] x → ⊥
-none_in x h = omega (arith, h.1.0)
+none_in x h = omega (arith, h.1)
 
 -- what stands before one of them is among those that are listed before it
 pub listed_before : (table : Accords) (guards slots : ℕ) (list before after : List (List ℕ)) (gs hs : List ℕ) → IsOrdered table guards slots list → before ++ (gs ∷ after) ≡ list

@@ -30,7 +30,7 @@ IsDoubtfulUnder p number op gs place why = First (IsSafe p) (IsDoubtful p place 
 
 -- there is such a place with such numbers
 abbrev pub HasBreach : Rules → ℕ → OpRules → List ℕ → Type 0
-HasBreach p number op gs = (place : Place) × ((f : ℕ → ℤ) × IsBrokenUnder p number op gs place f)
+HasBreach p number op gs = (place : Place) × (f : ℕ → ℤ) × IsBrokenUnder p number op gs place f
 
 abbrev pub IsRejected : Rules → ℕ → OpRules → Rejected → Type 0
 IsRejected p number op r = IsBrokenUnder p number op r.guards r.place (number_at r.at)

@@ -29,7 +29,6 @@ ghost use Rattle.carol_advise.specs.Advised.{
   IsTableOf,
   kept_as,
 };
-ghost use Rattle.carol_advise.specs.Tried.{OfOp};
 ghost use Rattle.carol_advise_guards.specs.Bars as total;
 ghost use Rattle.carol_advise_guards.specs.Order.{IsOrdered};
 
@@ -74,7 +73,7 @@ fn advise_in(
 {
     let op = op_at(program, number);
     let guards = program.guards.len() as u32;
-    let slots = slots_of(program, number);
+    let slots = slots_of(program, op, number);
     if !are_few(guards, slots) {
         return Err(AdviseError::TooMany);
     }
@@ -91,10 +90,11 @@ fn op_at(program: &Program, number: u32) -> &Op
 }
 
 // How many queries the operation with this number has, each of which has a name.
-fn slots_of(program: &Program, number: u32) -> u32
-    requires { IsWellFormed (rules_in program.now) program.now.names }
-    requires op { number < length program.now.ops }
-    ensures { OfOp program.now number (λ op. result ≡ queries_in op.body) }
+fn slots_of(program: &Program, op: &Op, number: u32) -> u32
+    requires well_formed { IsWellFormed (rules_in program.now) program.now.names }
+    requires op { slice_get program.now.ops number ≡ Some op.now }
+    ensures slots { result ≡ queries_in (op_rules op.now).body }
+    ensures few { result ≤ most_queries }
 {
     program.names.ops.as_slice()[number as usize].queries.len() as u32
 }

@@ -1,3 +1,5 @@
+ghost use Rattle.std.specs.Prelude.{◌≡◌};
+
 use carol_advise_guards::GuardNumbers;
 use carol_decide::Why;
 use carol_formula::Valuation;

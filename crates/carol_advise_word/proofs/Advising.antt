@@ -42,14 +42,14 @@ verdict_own said own program answer (inr h) = own h.kept answer h.says
 
 -- where nothing is fixed of one of them
 free_left : (other answer : Answer) → (FixesStatus ⊥ other.0 → ⊥) → (FixesText ⊥ other.0 → ⊥) → Agree ⊥ other answer
-free_left other answer no none = record {
-  status = λ f g. absurd (no f);
+free_left other answer never none = record {
+  status = λ f g. absurd (never f);
   text = λ f same. absurd (none (subst (FixesText ⊥) (sym same) f));
 }
 
 free_right : (other answer : Answer) → (FixesStatus ⊥ answer.0 → ⊥) → (FixesText ⊥ answer.0 → ⊥) → Agree ⊥ other answer
-free_right other answer no none = record {
-  status = λ f g. absurd (no g);
+free_right other answer never none = record {
+  status = λ f g. absurd (never g);
   text = λ f same. absurd (none f);
 }
 

@@ -1,5 +1,5 @@
 -- What `advise` means.
-use Rattle.std.specs.Prelude.{◌≡◌, ◌×◌, ◌⊎◌, List, ℕ, Option, Some, None, codes}
+use Rattle.std.specs.Prelude.{◌≡◌, ◌⊎◌, List, ℕ, Option, Some, None, codes}
 use Rattle.carol_accept.specs.Verdicts.{line, undecided_text}
 use Rattle.carol_advise.specs.declared.answer.Advice.{Advice}
 use Rattle.carol_advise.specs.declared.answer.AdviseError.TheVariants as error

@@ -3,11 +3,11 @@
 //! Layer: program. Called by `carol_tool`.
 #![tactic(auto)]
 
-mod advise;
 mod laws;
 mod op_word;
 mod text;
+mod word;
 
-pub use advise::advise_bytes;
 pub use laws::advise_laws;
 pub use op_word::{LONGEST_WORD, OpWord};
+pub use word::advise_bytes;
