@@ -28,7 +28,7 @@ fn is_right(formula: &Formula, leaves: u32, answer: &Answer, wanted: Wanted) -> 
 
 // Each formula in steps, with the number of turns and what is to be answered. The variables are 0,
 // 1, ..
-const ROWS: [(&[u8], u32, Wanted); 12] = [
+const ROWS: [(&[u8], u32, Wanted); 14] = [
     // 2a - 2b - 1 = 0
     (b"eq -1 0 2 1 -2", 20_000, Wanted::Unsat),
     // (a <= 0 or a >= 2) and a = 1, in two turns and in one
@@ -36,6 +36,17 @@ const ROWS: [(&[u8], u32, Wanted); 12] = [
     (
         b"le 0 0 1\nle 2 0 -1\nor\neq -1 0 1\nand",
         1,
+        Wanted::Leaves,
+    ),
+    // (a <= 0 or a >= 2 or a >= 3) and a = 1: each case has a leaf of its own
+    (
+        b"le 0 0 1\nle 2 0 -1\nor\nle 3 0 -1\nor\neq -1 0 1\nand",
+        3,
+        Wanted::Unsat,
+    ),
+    (
+        b"le 0 0 1\nle 2 0 -1\nor\nle 3 0 -1\nor\neq -1 0 1\nand",
+        2,
         Wanted::Leaves,
     ),
     // 27 <= 11x + 13y <= 45 and -10 <= 7x - 9y <= 4: fractions alone
