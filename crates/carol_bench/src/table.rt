@@ -3,7 +3,7 @@ use crate::formulas::formula_of;
 use anyhow::bail;
 use carol_cert::check;
 use carol_decide::{Answer, Why, can_decide, decide};
-use carol_formula::Formula;
+use carol_formula::{Formula, Valuation};
 use std::alloc::Global;
 
 // What is to be answered.
@@ -16,19 +16,25 @@ enum Wanted {
 
 // Whether the answer is the one that is wanted, and its evidence is right.
 fn is_right(formula: &Formula, leaves: u32, answer: &Answer, wanted: Wanted) -> bool {
-    match (answer, wanted) {
-        (Answer::Unsat(tree), Wanted::Unsat) => check(formula, tree),
-        (Answer::Sat(at), Wanted::Sat) => formula.fits(at) && formula.holds(at),
-        (Answer::Undecided(Why::Leaves(tree)), Wanted::Leaves) => {
-            counts_of(tree).turns == u64::from(leaves) && !check(formula, tree)
+    match answer {
+        Answer::Unsat(tree) => matches!(wanted, Wanted::Unsat) && check(formula, tree),
+        Answer::Sat(at) => matches!(wanted, Wanted::Sat) && is_true(formula, at),
+        Answer::Undecided(Why::Leaves(tree)) => {
+            let spent = counts_of(tree).turns == u64::from(leaves);
+            matches!(wanted, Wanted::Leaves) && spent && !check(formula, tree)
         }
-        _ => false,
+        Answer::Undecided(Why::Wide(_) | Why::Far(_)) => false,
     }
+}
+
+// Whether the formula is true at the valuation.
+fn is_true(formula: &Formula, at: &Valuation) -> bool {
+    formula.fits(at) && formula.holds(at)
 }
 
 // Each formula in steps, with the number of turns and what is to be answered. The variables are 0,
 // 1, ..
-const ROWS: [(&[u8], u32, Wanted); 14] = [
+const ROWS: [(&[u8], u32, Wanted); 12] = [
     // 2a - 2b - 1 = 0
     (b"eq -1 0 2 1 -2", 20_000, Wanted::Unsat),
     // (a <= 0 or a >= 2) and a = 1, in two turns and in one
@@ -36,17 +42,6 @@ const ROWS: [(&[u8], u32, Wanted); 14] = [
     (
         b"le 0 0 1\nle 2 0 -1\nor\neq -1 0 1\nand",
         1,
-        Wanted::Leaves,
-    ),
-    // (a <= 0 or a >= 2 or a >= 3) and a = 1: each case has a leaf of its own
-    (
-        b"le 0 0 1\nle 2 0 -1\nor\nle 3 0 -1\nor\neq -1 0 1\nand",
-        3,
-        Wanted::Unsat,
-    ),
-    (
-        b"le 0 0 1\nle 2 0 -1\nor\nle 3 0 -1\nor\neq -1 0 1\nand",
-        2,
         Wanted::Leaves,
     ),
     // 27 <= 11x + 13y <= 45 and -10 <= 7x - 9y <= 4: fractions alone

@@ -19,9 +19,9 @@ use crate::tally::try_file;
 use std::fs;
 
 // The files of cases.
-const FILES: [&str; 12] = [
+const FILES: [&str; 13] = [
     "tutorial", "words", "texts", "limits", "scenes", "check", "systems", "step", "run", "audit",
-    "cuts", "long",
+    "keep", "cuts", "long",
 ];
 
 fn main(rt: HostRuntime) -> anyhow::Result<()> {

@@ -33,11 +33,11 @@ use Rattle.carol_reply.specs.Texts.{Answer}
 use Rattle.carol_report.specs.Report.{report_text}
 use Rattle.carol_syntax.specs.declared.scenes.SceneDecl.{SceneDecl}
 use Rattle.carol_syntax.specs.Files.{ProgramTree}
-use Rattle.carol_words.specs.Audit.{IsAudited, OffsetSays, TailSays, finding_answer, line_at, tail_answer}
-use Rattle.carol_words.specs.AuditLaws.{ReportsAreFound}
-use Rattle.carol_words.specs.Check.{IsAccorded}
-use Rattle.carol_words.specs.Run.{Ended, IsToldRun, SceneRuns}
-use Rattle.carol_words.specs.Step.{IsPlayed, ScriptSays, script_answer}
+use Rattle.carol_words_audit.specs.Audit.{IsAudited, OffsetSays, TailSays, finding_answer, line_at, tail_answer}
+use Rattle.carol_words_audit.specs.AuditLaws.{ReportsAreFound}
+use Rattle.carol_words_check.specs.Check.{IsAccorded}
+use Rattle.carol_words_run.specs.Run.{Ended, IsToldRun, SceneRuns}
+use Rattle.carol_words_step.specs.Step.{IsPlayed, ScriptSays, script_answer}
 
 -- ---- `check`
 

@@ -20,7 +20,7 @@ use Rattle.carol_syntax.specs.declared.scenes.SceneDecl.{SceneDecl}
 use Rattle.carol_syntax.specs.Files.{FileTree, ProgramTree}
 use Rattle.carol_typecheck.specs.Readings.{IsVerdictFor}
 use Rattle.carol_typecheck.specs.declared.verdict.Verdict.TheVariants.{Undecided}
-use Rattle.carol_words.specs.AuditLaws.{IsReported}
+use Rattle.carol_words_audit.specs.AuditLaws.{IsReported}
 
 -- nothing that is asked of the program can stay open: at no guard, no step of a cell and no place of
 -- an operation there is a reason to leave it undecided

@@ -9,10 +9,10 @@ use Rattle.carol_program.specs.Rules.{Rules}
 use Rattle.carol_reply.specs.declared.status.Status.TheVariants.{Ok, Full}
 use Rattle.carol_reply.specs.Texts.{Answer}
 use Rattle.carol_report.specs.Report.{report_text}
-use Rattle.carol_words.specs.Audit.{AuditSays}
-use Rattle.carol_words.specs.Check.{CheckSays}
-use Rattle.carol_words.specs.Run.{RunSays}
-use Rattle.carol_words.specs.Step.{StepSays}
+use Rattle.carol_words_audit.specs.Audit.{AuditSays}
+use Rattle.carol_words_check.specs.Check.{CheckSays}
+use Rattle.carol_words_run.specs.Run.{RunSays}
+use Rattle.carol_words_step.specs.Step.{StepSays}
 
 abbrev pub ChecksSucceed : Type 0
 ChecksSucceed =

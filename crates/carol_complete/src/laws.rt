@@ -3,7 +3,7 @@ ghost use Rattle.carol_complete.specs.Laws.{AuditsSucceed, ChecksSucceed, RunsEn
 
 use carol_grammar::one_outcome;
 use carol_history::history_laws;
-use carol_words::audit_laws;
+use carol_words_audit::audit_laws;
 
 /// Each right answer to an input against which nothing stands has the status of success, whatever
 /// the word. It does nothing, and is called for its clauses.

@@ -16,7 +16,7 @@ use Rattle.carol_reading.specs.Good.{IsAccepted}
 use Rattle.carol_reply.specs.Texts.{Answer}
 use Rattle.carol_syntax.specs.Files.{FileTree}
 use Rattle.carol_typecheck.specs.declared.verdict.Verdict.TheVariants as verdict
-use Rattle.carol_words.specs.Gen.{IsSummed, SceneSums, gen_words}
+use Rattle.carol_words_gen.specs.Gen.{IsSummed, SceneSums, gen_words}
 
 not_good : (place : Place) (why : Why) → verdict.Undecided place why ≡ verdict.Good → ⊥
 not_good place why e = cc

@@ -4,7 +4,7 @@ use Rattle.carol_complete.specs.Inputs.{IsSceneInput}
 use Rattle.carol_generator.specs.Generated.{generated_text}
 use Rattle.carol_reply.specs.declared.status.Status.TheVariants.{Ok}
 use Rattle.carol_reply.specs.Texts.{Answer}
-use Rattle.carol_words.specs.Gen.{GenSays}
+use Rattle.carol_words_gen.specs.Gen.{GenSays}
 
 -- nothing stands against the text that is made
 abbrev pub GeneratedIsInput : Type 0

@@ -36,11 +36,13 @@ within_from n m h = grind arith
 pub reads_all : (asked : Word) → (word_meaning asked).whole
 reads_all word.Audit = tt
 reads_all word.Check = tt
+reads_all (word.Keep stop) = tt
 reads_all word.Step = tt
 
 pub reads_some : (asked : Word) → (word_meaning asked).unread → ⊥
 reads_some word.Audit none = none
 reads_some word.Check none = none
+reads_some (word.Keep stop) none = none
 reads_some word.Step none = none
 
 -- all bytes were read, and this is the reply to them

@@ -7,9 +7,10 @@ use Rattle.std.proofs.lemmas.List.{append-nil}
 use lib.Pointwise.{bytes_decides}
 use Rattle.carol_text.specs.Number.{starts_with_digit}
 use Rattle.carol_generator.specs.declared.generator.TheConstants.{MOST_PER_SESSION}
-use Rattle.carol_tool.specs.Words.{IsCounted, command_of, spelled_count}
+use Rattle.carol_tool.specs.Words.{IsCounted, command_of, spelled_count, word_with}
 use Rattle.carol_tool.specs.declared.command.Command.{Command}
 use Rattle.carol_tool.specs.declared.command.Command.TheVariants as command
+use Rattle.carol_tool.specs.declared.command.Word.{Word}
 use Rattle.carol_tool.specs.declared.command.Word.TheVariants as asked
 
 -- a list of one element is that element
@@ -38,23 +39,27 @@ never_counted false false true d n e = cc
 never_counted false false false true n e = cc
 never_counted false false false false n e = cc
 
--- a word and a number
-counted_run : (b : Bool) (spelled : Option ℕ) → (if b then option_map command.Gen spelled else None) ≡ Some command.Run → ⊥
-counted_run true (Some n) e = cc
-counted_run true None e = cc
-counted_run false spelled e = cc
+-- a word and its argument
+with_run : (b : Bool) (spelled : Option ℕ) (word : Option Word)
+    → (if b then option_map command.Gen spelled else option_map command.Read word) ≡ Some command.Run → ⊥
+with_run true (Some n) word e = cc
+with_run true None word e = cc
+with_run false spelled (Some word) e = cc
+with_run false spelled None e = cc
 
-counted_is : (b : Bool) (spelled : Option ℕ) (n : ℕ) → (if b then option_map command.Gen spelled else None) ≡ Some (command.Gen n) → spelled ≡ Some n
-counted_is true (Some m) n e = cc
-counted_is true None n e = cc
-counted_is false spelled n e = cc
+counted_is : (b : Bool) (spelled : Option ℕ) (word : Option Word) (n : ℕ)
+    → (if b then option_map command.Gen spelled else option_map command.Read word) ≡ Some (command.Gen n) → spelled ≡ Some n
+counted_is true (Some m) word n e = cc
+counted_is true None word n e = cc
+counted_is false spelled (Some word) n e = cc
+counted_is false spelled None n e = cc
 
 -- other words than `run` alone are another command, or none
 pub not_run : (words : List (List ℕ)) → words ≢ codes "run" ∷ [] → command_of words ≢ Some command.Run
 not_run [] other e = cc
 not_run (word ∷ []) other e =
     other (ap (λ w. w ∷ []) ((bytes_decides word (codes "run")).0 (only_run (bytes_eq word (codes "audit")) (bytes_eq word (codes "check")) (bytes_eq word (codes "step")) (bytes_eq word (codes "run")) e)))
-not_run (word ∷ count ∷ []) other e = counted_run (bytes_eq word (codes "gen")) (spelled_count MOST_PER_SESSION count) e
+not_run (word ∷ count ∷ []) other e = with_run (bytes_eq word (codes "gen")) (spelled_count MOST_PER_SESSION count) (word_with word count) e
 not_run (word ∷ count ∷ next ∷ more) other e = cc
 
 -- ---- numbers that are spelled in a word
@@ -140,7 +145,7 @@ spelled_bad most word none = spelled_none most word (λ m some few is. none m []
 pub gen_within : (words : List (List ℕ)) (n : ℕ) → command_of words ≡ Some (command.Gen n) → (1 ≤ n) × (n ≤ MOST_PER_SESSION)
 gen_within [] n e = cc
 gen_within (word ∷ []) n e = absurd (never_counted (bytes_eq word (codes "audit")) (bytes_eq word (codes "check")) (bytes_eq word (codes "step")) (bytes_eq word (codes "run")) n e)
-gen_within (word ∷ count ∷ []) n e = spelled_within MOST_PER_SESSION count n (counted_is (bytes_eq word (codes "gen")) (spelled_count MOST_PER_SESSION count) n e)
+gen_within (word ∷ count ∷ []) n e = spelled_within MOST_PER_SESSION count n (counted_is (bytes_eq word (codes "gen")) (spelled_count MOST_PER_SESSION count) (word_with word count) n e)
 gen_within (word ∷ count ∷ next ∷ more) n e = cc
 
 pub counted_of : (words : List (List ℕ)) (asked : Option Command) → asked ≡ command_of words → IsCounted asked

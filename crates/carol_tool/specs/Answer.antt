@@ -22,7 +22,8 @@ end_of bytes faults = record { bytes = bytes; faults = faults }
 
 -- the answer to words that are no command
 abbrev pub usage_answer : Answer
-usage_answer = (status.Usage, codes "usage: carol check, step, run, audit or gen N" ++ line_feed)
+usage_answer =
+    (status.Usage, codes "usage: carol check, step, run, audit, gen N or keep K" ++ line_feed)
 
 -- Of these bytes and this source a word with this meaning makes this status and this text. A fault
 -- of the source, and want of memory, may come in the place of any other answer.

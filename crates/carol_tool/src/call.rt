@@ -5,23 +5,33 @@ ghost use Rattle.carol_reply.specs.Reply.{answer_of, outcome_answer};
 ghost use Rattle.carol_generator.specs.declared.generator.TheConstants.{MOST_PER_SESSION};
 ghost use Rattle.carol_syntax.specs.Limits.{most_text_bytes};
 ghost use Rattle.carol_tool.specs.Answer.{Answered, AnsweredBy, End, MeantBy, Wrote, end_of};
+ghost use Rattle.carol_tool.specs.Complete.{Completes};
 ghost use Rattle.carol_tool.specs.Words.{IsCounted, texts, word_meaning};
 
 use super::command::{Command, Word, command_of};
+use carol_complete::complete_laws;
+use carol_gen::gen_is_ok;
+use carol_keep::keep_bytes;
+use carol_keep_complete::keep_succeeds;
 use carol_outer::{Gate, Sink, Source, read_all, write_all};
 use carol_reply::{Reply, Status, Stop};
 use carol_syntax::MOST_TEXT_BYTES;
-use carol_words::{audit_bytes, check_bytes, run_bytes, step_bytes, sum_up};
+use carol_words_audit::audit_bytes;
+use carol_words_check::check_bytes;
+use carol_words_gen::sum_up;
+use carol_words_run::run_bytes;
+use carol_words_step::step_bytes;
 use std::alloc::{AllocError, Global};
 use std::sync::Wait;
 use std::thread::Threads;
 
 // The text of the answer to words that are no command.
-const USAGE: &[u8] = b"usage: carol check, step, run, audit or gen N\n";
+const USAGE: &[u8] = b"usage: carol check, step, run, audit, gen N or keep K\n";
 
 /// Does what the words of a command line say, of which the single word `run` is no part: reads the
 /// source, writes one text to the sink and answers the status. `ReadFault` and `WriteFault` come
-/// only where the source or the sink counted a fault. It waits for nobody.
+/// only where the source or the sink counted a fault. Where none was counted and nothing stands
+/// against the input, it is `Ok`, or `NoMemory`. It waits for nobody.
 pub fn plain<R: Threads + Sync, S: Source, K: Sink>(
     rt: &R,
     alloc: Global,
@@ -40,13 +50,23 @@ pub fn plain<R: Threads + Sync, S: Source, K: Sink>(
         → Rose (S.faults source.old) (S.faults source.new) }
     ensures write_fault { result ≡ Status.WriteFault
         → Rose (K.faults sink.old) (K.faults sink.new) }
+    ensures complete { Completes (texts words.now)
+        (end_of (S.left source.old) (S.faults source.old))
+        (end_of (S.left source.new) (S.faults source.new))
+        (end_of (K.taken sink.old) (K.faults sink.old))
+        (end_of (K.taken sink.new) (K.faults sink.new))
+        result }
 {
+    complete_laws();
+    gen_is_ok();
+    keep_succeeds();
     answer_plain(rt, alloc, command_of(words), source, sink)
 }
 
 /// Does what the words of a command line say: reads the source, writes one text to the sink and
 /// answers the status. `ReadFault` and `WriteFault` come only where the source or the sink counted
-/// a fault. For the single word `run` it may wait: the threads that run the scene pass the gate
+/// a fault. Where none was counted and nothing stands against the input, it is `Ok`, or `NoMemory`.
+/// For the single word `run` it may wait: the threads that run the scene pass the gate
 /// after each of their steps. What is told then is a history that the accepted program can make,
 /// whatever the order of the threads' steps. Up to each of its events, each live query stands in
 /// its guard's relation to the global store, the invariant is true of it, the history is that of
@@ -70,8 +90,36 @@ pub fn carol<R: Threads + Wait + Sync, S: Source, K: Sink, G: Gate + Sync>(
         → Rose (S.faults source.old) (S.faults source.new) }
     ensures write_fault { result ≡ Status.WriteFault
         → Rose (K.faults sink.old) (K.faults sink.new) }
+    ensures complete { Completes (texts words.now)
+        (end_of (S.left source.old) (S.faults source.old))
+        (end_of (S.left source.new) (S.faults source.new))
+        (end_of (K.taken sink.old) (K.faults sink.old))
+        (end_of (K.taken sink.new) (K.faults sink.new))
+        result }
 {
-    let command = command_of(words);
+    complete_laws();
+    gen_is_ok();
+    keep_succeeds();
+    answer_command(rt, alloc, command_of(words), source, sink, gate)
+}
+
+// Does the command and answers it, or that the words are none.
+fn answer_command<R: Threads + Wait + Sync, S: Source, K: Sink, G: Gate + Sync>(
+    rt: &R,
+    alloc: Global,
+    command: Option<Command>,
+    source: &mut S,
+    sink: &mut K,
+    gate: &G,
+) -> Status
+    requires counted { IsCounted command }
+    ensures { AnsweredBy command
+        (end_of (S.left source.old) (S.faults source.old))
+        (end_of (S.left source.new) (S.faults source.new))
+        (end_of (K.taken sink.old) (K.faults sink.old))
+        (end_of (K.taken sink.new) (K.faults sink.new))
+        result }
+{
     match command {
         Some(Command::Run) => answer(sink, &run_reply(rt, alloc, source, gate)),
         Some(Command::Read(_)) | Some(Command::Gen(_)) | None => {
@@ -134,6 +182,7 @@ fn word_reply<R: Threads + Sync>(
     match word {
         Word::Audit => audit_bytes(rt, alloc, bytes),
         Word::Check => check_bytes(rt, alloc, bytes),
+        Word::Keep(stop) => keep_bytes(rt, alloc, stop, bytes),
         Word::Step => step_bytes(rt, alloc, bytes),
     }
 }

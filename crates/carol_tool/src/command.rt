@@ -1,8 +1,17 @@
 ghost use Rattle.std.specs.Prelude.{◌≡◌, [], ◌∷◌};
-ghost use Rattle.carol_tool.specs.Words.{command_of, spelled_count, texts};
+ghost use Rattle.carol_tool.specs.Words.{
+  command_of,
+  spelled_count,
+  spelled_stop,
+  texts,
+  word_with,
+};
 
 use carol_generator::MOST_PER_SESSION;
 use carol_text::number;
+
+// The last call at which a disk may be asked to stop.
+const MOST_STOP: u32 = 1_000_000;
 
 /// A word that reads its input, and waits for nobody.
 #[derive(Clone, Copy, Debug, PartialEq, Eq)]
@@ -11,6 +20,9 @@ pub enum Word {
     Audit,
     /// To say whether the program of a file is accepted.
     Check,
+    /// To say what is read back of a script's history, which is kept on a disk that stops at this
+    /// call, from 0 to 1,000,000.
+    Keep(u32),
     /// To carry out the script of a file.
     Step,
 }
@@ -33,7 +45,7 @@ pub(crate) fn command_of(words: &[Vec<u8>]) -> Option<Command>
 {
     match words {
         [word] => command_named(word),
-        [word, count] => counted_command(word, count),
+        [word, argument] => command_with(word, argument),
         _ => None,
     }
 }
@@ -57,21 +69,41 @@ fn command_named(word: &[u8]) -> Option<Command>
     None
 }
 
-// The command that this word and this number behind it are, if they are one.
-fn counted_command(word: &[u8], count: &[u8]) -> Option<Command>
-    ensures { result ≡ command_of (word.now ∷ count.now ∷ []) }
+// The command that this word and this argument behind it are, if they are one.
+fn command_with(word: &[u8], argument: &[u8]) -> Option<Command>
+    ensures { result ≡ command_of (word.now ∷ argument.now ∷ []) }
 {
     if word == b"gen".as_slice() {
-        return spelled_count(count).map(Command::Gen);
+        return spelled_count(argument, MOST_PER_SESSION).map(Command::Gen);
+    }
+    word_with(word, argument).map(Command::Read)
+}
+
+// The word with this argument, if it takes one.
+fn word_with(word: &[u8], argument: &[u8]) -> Option<Word>
+    ensures { result ≡ word_with word.now argument.now }
+{
+    if word == b"keep".as_slice() {
+        return spelled_stop(argument).map(Word::Keep);
     }
     None
 }
 
-// The number from 1 to 256 that is spelled so, if one is.
-fn spelled_count(text: &[u8]) -> Option<u32>
-    ensures { result ≡ spelled_count MOST_PER_SESSION text.now }
+// The number of a call that is spelled so, if one is.
+fn spelled_stop(text: &[u8]) -> Option<u32>
+    ensures { result ≡ spelled_stop text.now }
 {
-    match number(text, u64::from(MOST_PER_SESSION)) {
+    if text == b"0".as_slice() {
+        return Some(0);
+    }
+    spelled_count(text, MOST_STOP)
+}
+
+// The number from 1 on, and no more than `most`, that is spelled so, if one is.
+fn spelled_count(text: &[u8], most: u32) -> Option<u32>
+    ensures { result ≡ spelled_count most text.now }
+{
+    match number(text, u64::from(most)) {
         Ok((count, rest)) if count >= 1 && rest.is_empty() => Some(count as u32),
         _ => None,
     }

@@ -10,4 +10,5 @@ pub use call::{carol, plain};
 pub use carol_complete::{complete_laws, decided_laws};
 pub use carol_gen::gen_is_ok;
 pub use carol_reply::{Status, number};
-pub use carol_words::{audit_laws, report_laws};
+pub use carol_words_audit::audit_laws;
+pub use carol_words_laws::report_laws;

@@ -1,10 +1,2 @@
-pub mod Accorded
-pub mod Checked
+pub mod Alike
 pub mod Opened
-pub mod Stepped
-pub mod Ran
-pub mod Turned
-pub mod Summed
-pub mod Audited
-pub mod Genuine
-pub mod Reported

@@ -11,11 +11,7 @@ use std::alloc::Global;
 use std::thread::Threads;
 
 /// The house of the program in the scene, before its first event, if the program is accepted.
-pub(crate) fn fresh_house<R: Threads + Sync>(
-    rt: &R,
-    alloc: Global,
-    placed: Placed,
-) -> Result<House, Halt>
+pub fn fresh_house<R: Threads + Sync>(rt: &R, alloc: Global, placed: Placed) -> Result<House, Halt>
     requires { IsFit placed.program placed.scene }
     ensures fresh { IfOk result (IsFresh placed.program placed.scene) }
     ensures told { IfErr result (HaltSays (IsToldRefused placed.program)) }

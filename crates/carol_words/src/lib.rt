@@ -1,20 +1,10 @@
-//! The words of the command line, each with its meaning in `specs/`: what it is to answer to the
-//! bytes of its input.
+//! What the words of the command line have in common: the house of an accepted program before its
+//! first event, and what is told where the program isn't accepted.
 //!
-//! Layer: program. `carol_tool` calls the word that it was asked for.
+//! Layer: program. Called by `carol_words_step`, `carol_words_run` and `carol_words_gen`; the proofs
+//! of the other words use its lemmas.
 #![tactic(auto)]
 
-mod audit;
-mod check;
 mod fresh;
-mod generated;
-mod laws;
-mod run;
-mod step;
 
-pub use audit::audit_bytes;
-pub use check::check_bytes;
-pub use generated::sum_up;
-pub use laws::{audit_laws, report_laws};
-pub use run::run_bytes;
-pub use step::step_bytes;
+pub use fresh::fresh_house;

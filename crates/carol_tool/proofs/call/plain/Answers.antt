@@ -1,5 +1,6 @@
 use Rattle.std.proofs.Common.{◌∙◌, sym}
 use Rattle.carol_tool.specs.Words.{texts}
+use Rattle.carol_tool.proofs.Completing.{completed}
 use Rattle.carol_tool.proofs.Meaning.{answered_as, read_fault, write_fault}
 use Rattle.carol_tool.proofs.Words.{counted_of, not_run}
 use Rattle.carol_tool.proofs.call.plain.Goals as goal
@@ -18,3 +19,15 @@ returns-clause-read_fault g c = read_fault _ _ _ _ _ _ c.answer_plain.ensures
 
 pub returns-clause-write_fault : goal.returns-clause-write_fault
 returns-clause-write_fault g c = write_fault _ _ _ _ _ _ c.answer_plain.ensures
+
+pub returns-clause-complete : goal.returns-clause-complete
+returns-clause-complete g c = completed
+    (record {
+      checks = c.complete_laws.ensures.checks;
+      steps = c.complete_laws.ensures.steps;
+      keeps = c.keep_succeeds.ensures;
+      audits = c.complete_laws.ensures.audits;
+      runs = c.complete_laws.ensures.runs;
+      gen = c.gen_is_ok.ensures.ok;
+    })
+    _ _ _ _ _ _ _ c.command_of.ensures (counted_of (texts c.args.words.now) c.command_of.result c.command_of.ensures) c.answer_plain.ensures

@@ -1,0 +1,2 @@
+pub mod Accorded
+pub mod Checked
