@@ -1,5 +1,5 @@
 pub mod Ending
 pub mod Advising
 pub mod Statuses
-pub mod Told
 pub mod Words
+pub mod Finding

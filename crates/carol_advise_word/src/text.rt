@@ -1,6 +1,7 @@
-ghost use Rattle.std.specs.Prelude.{◌≡◌, ◌++◌, IfOk, OnOk};
+ghost use Rattle.std.specs.Prelude.{◌≡◌, ◌≤◌, ◌++◌, length, IfOk, OnOk};
 ghost use Rattle.carol_accept.specs.Named.{op_text};
 ghost use Rattle.carol_program.specs.Called.{queries_of};
+ghost use Rattle.carol_program.specs.Limits.{most_queries};
 ghost use Rattle.carol_program.specs.Rules.{rules_in};
 ghost use Rattle.carol_program.specs.WellFormed.{AreRules};
 ghost use Rattle.carol_advise_word.specs.Texts as text;
@@ -26,7 +27,8 @@ pub(crate) fn advice_text(
     op: u32,
     advice: &Advice,
 ) -> Result<Vec<u8>, AllocError>
-    requires { AreRules (rules_in program.now) }
+    requires rules { AreRules (rules_in program.now) }
+    requires few { length advice.now.guards ≤ most_queries }
     ensures { IfOk result (λ bytes. bytes.items ≡ text.advice_text program.now op advice.now) }
 {
     let mut out = Vec::new(alloc);
@@ -81,6 +83,7 @@ fn push_query(
 
 // Appends those of all slots.
 fn push_queries(out: &mut Vec<u8>, names: &Names, op: u32, guards: &[u32]) -> Result<(), AllocError>
+    requires { length guards.now ≤ most_queries }
     ensures { OnOk result (out.new.items ≡ out.old.items ++ query_lines names.now op 0 guards.now) }
 {
     for (slot, guard) in guards.iter().enumerate() {

@@ -1,4 +1,5 @@
 ghost use Rattle.std.specs.Prelude.{◌≡◌, ◌<◌, ◌≤◌, length, IfOk, IfSome, Some};
+ghost use Rattle.carol_program.specs.Limits.{most_ops};
 ghost use Rattle.carol_reply.specs.Meaning.{IsReply};
 ghost use Rattle.carol_reply.specs.Reply.{Ends, HaltTells, answer_of};
 ghost use Rattle.carol_reply.specs.declared.status.Status.TheVariants as status;
@@ -39,7 +40,8 @@ pub fn advise_bytes<R: Threads + Sync>(
     ensures { IfOk result (λ reply. IsReply (advise_meaning op) bytes.now (answer_of reply)) }
 {
     one_outcome();
-    ended(answer(rt, alloc, op.bytes(), bytes))
+    let name = op.bytes();
+    ended(answer(rt, alloc, name, bytes))
 }
 
 // Tells what is advised for the operation with this name of the file's program.
@@ -94,6 +96,7 @@ fn advised(alloc: Global, kept: &Accepted, number: u32) -> Result<Reply, Halt>
 
 // The number of the operation with this name, if there is one.
 fn op_named(names: &Names, name: &[u8]) -> Option<u32>
+    requires { length names.now.ops ≤ most_ops }
     ensures number { result ≡ op_named names.now name.now }
     ensures within { IfSome result (λ number. number < length names.now.ops) }
 {
