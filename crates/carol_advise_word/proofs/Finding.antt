@@ -1,5 +1,5 @@
 -- What an accepted program has for the operation that is found.
-use Rattle.std.proofs.Common.{◌≡◌, ◌<◌, ◌≤◌, ℕ, List, length, map, sym, ◌∙◌, ap, subst, inl, inr, arith}
+use Rattle.std.proofs.Common.{◌≡◌, ◌<◌, ◌≤◌, ℕ, suc, List, [], ◌∷◌, length, map, refl, sym, ◌∙◌, ap, subst, inl, inr, arith}
 use Rattle.std.specs.Prelude.{Option, Some, None, slice_get}
 use Rattle.std.proofs.lemmas.Option.{slice_get_cases}
 use Rattle.carol_program.specs.declared.program.Op.{Op}
@@ -27,3 +27,19 @@ few_guards kept number a may low is =
     let advice = is (op_rules found.0) (op_there kept.program.ops number found.0 found.1) in
     let over = over_there kept.program found.0 number found.1 may.well_formed.rules in
     omega (arith, advice.assigns.count, over.few_queries)
+
+count_map : (ops : List Op) → length (map op_rules ops) ≡ length ops
+count_map [] = refl
+count_map (op ∷ ops) = ap suc (count_map ops)
+
+pub few_ops : (kept : Kept) → MayBeKept kept.program kept.accords → length kept.program.names.ops ≤ most_ops
+few_ops kept may =
+    let same : length kept.program.names.ops ≡ length (map op_rules kept.program.ops) = same_count kept.program may.well_formed in
+    let few : length (map op_rules kept.program.ops) ≤ most_ops = may.well_formed.rules.few_ops in
+    omega (arith, same, few)
+
+pub op_within : (kept : Kept) (number : ℕ) → MayBeKept kept.program kept.accords → number < length kept.program.names.ops → number < length kept.program.ops
+op_within kept number may low =
+    let same : length kept.program.names.ops ≡ length (map op_rules kept.program.ops) = same_count kept.program may.well_formed in
+    let count : length (map op_rules kept.program.ops) ≡ length kept.program.ops = count_map kept.program.ops in
+    omega (arith, same, count, low)

@@ -3,3 +3,4 @@ pub mod Advising
 pub mod Statuses
 pub mod Words
 pub mod Finding
+pub mod Open
