@@ -1,0 +1,11 @@
+pub mod Texts
+pub mod Elements
+pub mod Places
+pub mod Labels
+pub mod Columns
+pub mod Shapes
+pub mod Changes
+pub mod Marks
+pub mod Style
+pub mod Frame
+pub mod Picture
